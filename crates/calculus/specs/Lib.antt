@@ -1,0 +1,16 @@
+pub mod Bytes
+pub mod Terms
+pub mod Words
+pub mod Writing
+pub mod Truth
+pub mod Claim
+pub mod Grammar
+pub mod Commands
+pub mod Equality
+pub mod Sums
+pub mod Rules
+pub mod Normalize
+pub mod Links
+pub mod Marks
+pub mod Report
+pub mod Answers
