@@ -214,3 +214,7 @@ unfolding readFile
 complete s cs r =
     ap (λ (b : Bool). cond b (commands enough s 0 0 []) (refused 2 maxText)) (T-true (leb (length s) maxText) (le→leb (length s) maxText (r .short)))
     ∙ commands-eq s (r .short) enough cs 0 0 (r .words .last) (r .words .size) [] (omega (arith, r .limits .commands)) (r .limits .allowed) (omega (arith, r .limits .nodes)) (omega (arith, r .limits .commands)) (r .words .words) (r .words .none)
+
+-- a text is a file of at most one list of commands
+pub read-once : (s : List ℕ) (cs ds : List Command) → IsRead s cs → IsRead s ds → cs ≡ ds
+read-once s cs ds r q = let e : whole cs ≡ whole ds = sym (complete s cs r) ∙ complete s ds q in cc

@@ -1,13 +1,16 @@
 -- Demand 3: the report of every text is sound.
 -- A text is a file of at most one list of commands, the one that it is read as; its report's lines are those of the run; and what is marked there holds.
 use mathlib.Core.Path.{_≡_, sym, ap, subst, _∙_}
+use mathlib.Core.Bool.{Bool, true, false, cond, _&&_}
 use mathlib.Core.List.{List, [], _∷_, _++_, map}
-use Prim.Native.Nat.{ℕ}
-use lib.ListN.{getD}
+use Prim.Native.Nat.{ℕ, _<_}
+use native.Mathlib.Omega.{arith}
+use lib.Dec.{leb}
+use lib.ListN.{length, getD, length-append}
 use Rattle.calculus.specs.Claim.{Claim, Sound, EndsIn, linesOf, lastLine, holdsYes, refutedYes}
 use Rattle.calculus.specs.Commands.{Read}
 use Rattle.calculus.specs.Marks.{run}
-use Rattle.calculus.specs.Report.{lineText, totalsText, reportLines, reportRead, reportOf}
+use Rattle.calculus.specs.Report.{lineText, totalsText, reportLines, reportRead, reportOf, minReport, minTable, written}
 use Rattle.calculus.specs.Terms.{Command}
 use Rattle.calculus.proofs.CompleteFile.{complete}
 use Rattle.calculus.proofs.Demand.{demand3}
@@ -32,3 +35,23 @@ unfolding Sound reportOf reportRead
 sound s cs r =
     subst (λ (z : Read). Claim cs (linesOf (reportRead z))) (sym (complete s cs r))
     (sound-whole cs (ids-clean s cs 0 (r .words .last) (r .words .words)))
+
+-- ---- with refusal 1, which writes nothing
+nothing-ends : (end front : List ℕ) → 0 < length end → ¬ ([] ≡ front ++ end)
+nothing-ends end front h e = omega (arith, simp length-append at (ap length e))
+
+sound-nothing : (s : List ℕ) → Sound s []
+unfolding Sound linesOf lastLine holdsYes refutedYes
+sound-nothing s cs r = record {
+  marked = λ i l (front, e) σ m. absurd (nothing-ends holdsYes front (omega arith) e);
+  refuted = λ (front, e) σ m. nothing-ends refutedYes front (omega arith) e;
+}
+
+-- whatever a call is lent, what it writes is sound
+pub sound-written : (r n : ℕ) (s : List ℕ) → Sound s (written r n s)
+unfolding written
+sound-written r n s = go (leb minReport r && leb minTable n)
+  where
+    go : (c : Bool) → Sound s (cond c (reportOf s) [])
+    go true = sound s
+    go false = sound-nothing s

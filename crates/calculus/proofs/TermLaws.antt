@@ -1,13 +1,14 @@
 -- The tests of equality on terms are right.
 use mathlib.Core.Path.{_≡_, refl, sym, ap, ap₂, subst, _∙_}
-use mathlib.Core.Bool.{not}
+use mathlib.Core.Bool.{Bool, true, false, not}
 use mathlib.Core.List.{List, [], _∷_}
 use Prim.Native.Nat.{ℕ, zero, suc}
-use lib.Dec.{T, T-not, eqb, eqb→eq, eqb-refl}
+use lib.Dec.{T, T-not, not-T, eqb, eqb→eq, eqb-refl}
 use lib.IntN.{ℤ, pos, negsuc}
+use Rattle.integer.specs.Integers.{Tests}
 use Rattle.calculus.specs.Equality.{opNum, sameOp, sameTerm, sameTerms}
 use Rattle.calculus.specs.Terms.{Op, Term, Terms, add, app, conj, cons, eq, sameInteger, ge, gt, le, lt, mul, nil, num, sameName, sub, var}
-use Rattle.calculus.proofs.Booleans.{and-l, and-r, and-mk}
+use Rattle.calculus.proofs.Booleans.{is-true, is-false, and-l, and-r, and-mk}
 
 opOf : ℕ → Op
 opOf zero = add
@@ -52,6 +53,11 @@ sameInteger-refl a b e = subst (λ (z : ℤ). T (sameInteger a z)) e (sameIntege
 
 pub sameInteger-no : (a b : ℤ) → T (not (sameInteger a b)) → ¬ (a ≡ b)
 sameInteger-no a b n e = T-not (sameInteger a b) n (sameInteger-refl a b e)
+
+-- what a test in code tells is what the definition computes
+pub sameInteger-tests : (a b : ℤ) (r : Bool) → Tests (a ≡ b) (a ≡ b → ⊥) r → r ≡ sameInteger a b
+sameInteger-tests a b true t = sym (is-true (sameInteger a b) (sameInteger-refl a b (t .yes refl)))
+sameInteger-tests a b false t = sym (is-false (sameInteger a b) (not-T (sameInteger a b) (λ s. t .no refl (sameInteger-eq a b s))))
 
 pub sameName-eq : (xs ys : List ℕ) → T (sameName xs ys) → xs ≡ ys
 unfolding sameName
