@@ -13,7 +13,8 @@ import subprocess
 import sys
 import tempfile
 
-from generate import examples, texts
+from examples import examples
+from generate import texts
 from reference import report
 
 CRATES = os.path.join(os.path.dirname(os.path.abspath(__file__)), "..", "..", "crates")
@@ -89,11 +90,19 @@ def print_coverage(reports):
         print("%-18s %s" % (label, ", ".join("%s %d" % pair for pair in sorted(counts.items()))))
 
 
+def check_examples():
+    """The reference gives for each example what the document says."""
+    for text, part in examples():
+        if part not in report(text).decode("ascii"):
+            sys.exit("the reference is wrong on %r, which has %r" % (text, part))
+
+
 def main():
     """Compare, print, and give the exit status."""
-    count = int(sys.argv[1]) if len(sys.argv) > 1 else 300
+    count = int(sys.argv[1]) if len(sys.argv) > 1 else 200
     seed = int(sys.argv[2]) if len(sys.argv) > 2 else 1
-    compared = examples() + texts(seed, count)
+    check_examples()
+    compared = [text for text, _ in examples()] + texts(seed, count)
     reports = [report(text) for text in compared]
     print("%d texts, %d of them examples, seed %d" % (len(compared), len(compared) - count, seed))
     print_coverage(reports)

@@ -395,7 +395,7 @@ class Maker:
             product = self.rng.choice((apply("*", 2, 3), apply("*", 0, 1), 3))
             return inequality(apply("+", *map(self.written_entry, entries), product), constant)
         if way == 1:
-            return self.changed(self.written_half(entries, self.rng.choice(("x", apply("-", 1)))))
+            return self.written_half(entries, self.rng.choice(("x", apply("-", 1))))
         if way == 2:
             return apply(self.rng.choice(OPERATORS), *self.written_half(entries, constant).arguments)
         if way == 3 or place is None:
@@ -412,18 +412,18 @@ class Maker:
         """A near miss of a normalization: of its relation, of one half, or of the halves' order."""
         relation, normalized = step.clause[0].arguments
         halves = normalized_halves(relation)
-        texts_of_halves = [self.written_half(*half) for half in halves]
+        written_halves = [self.written_half(*half) for half in halves]
         way = self.rng.randrange(10)
         if way < 3:
             relation = self.missed_relation(relation)
         elif way < 9:
             place = self.rng.randrange(len(halves))
-            texts_of_halves[place] = self.missed_half(*halves[place])
-            normalized = joined(texts_of_halves)
+            written_halves[place] = self.missed_half(*halves[place])
+            normalized = joined(written_halves)
         else:
-            first = texts_of_halves[0]
+            first = written_halves[0]
             normalized = joined(self.rng.choice((
-                texts_of_halves[::-1], [first, first], texts_of_halves + [first])))
+                written_halves[::-1], [first, first], written_halves + [first])))
         step.clause = [apply("=", relation, normalized)]
 
     def missed_literal(self, step):
@@ -442,6 +442,8 @@ class Maker:
             self.missed_literal(step)
         elif step.rule in ("cp_transfer", "cp_part"):
             step.clause = [self.changed(step.clause[0])]
+        elif step.arguments and self.chance(20):
+            step.arguments = [self.rng.choice((0, -1, -2, "x", apply("-", 2)))]
         else:
             self.missed_sum(step)
 

@@ -23,6 +23,7 @@ pub mod Faithful
 pub mod FaithfulFile
 pub mod Complete
 pub mod CompleteFile
+pub mod Decimal
+pub mod Written
 pub mod Proper
 pub mod Soundness
-pub mod Written

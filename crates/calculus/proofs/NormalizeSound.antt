@@ -15,7 +15,7 @@ use Rattle.calculus.specs.Sums.{maxSummands, orBad, Entry, Lit, all, asC
 use Rattle.calculus.specs.Terms.{Op, Term, Terms, add, app, conj, cons, eq, sameInteger, ge, gt, le, lt, mul, nil, num, sub, var}
 use Rattle.calculus.specs.Truth.{Assignment, Satisfies, allB, areArithmetic, areStatements, arithmeticOp, bit, isArithmetic, isStatement, lessZ, pairOf, prodZ, statementOp, sumZ, truth, truthOp, truths, two, val, valOp, vals}
 use Rattle.calculus.specs.Words.{Res, bad, bind, ok}
-use Rattle.calculus.proofs.Booleans.{and-l, and-mk, and-r, beq-eq}
+use Rattle.calculus.proofs.Booleans.{or-l, or-not, and-l, and-mk, and-r, beq-eq}
 use Rattle.calculus.proofs.Reading.{IsLit, TermRead, asConstant-ok, binary-ok, bind-ok, ensure-ok, lit-ok, litVal, litVal-opp, names-cons, ok-bad, ok-inj, orBad-ok, pair-ok, split-arith, split-val, term-read}
 use Rattle.calculus.proofs.RulesSound.{AllSat, arith-not-stmt, single-ok}
 use Rattle.calculus.proofs.SumLaws.{scale, total}
@@ -153,10 +153,6 @@ module _ (σ : Assignment) where
       record { value = q .value ∙ sym (+ℤ-idr _ ∙ +ℤ-idr _); arith = q .arith }
   leaf-read t (constOf k) r n = record { value = r .value ∙ sym (+ℤ-idl k); arith = r .arith }
 
-  or-not : (a b : Bool) → T (not (a || b)) → T (not a) × T (not b)
-  or-not true b t = absurd t
-  or-not false b t = (tt, t)
-
   join-good : (f g : Flat) → Good (join f g) → Good f × Good g
   unfolding join
   join-good f g h =
@@ -239,7 +235,7 @@ module _ (σ : Assignment) where
   unfolding total
   cons-total e E = refl
 
-  -- ---- two entries over allNames that agree are equal
+  -- ---- two entries over names that agree are equal
   neg-name : (t w : Term) → T (isName t) → T (negIs (negOf t) w) → ⊥
   unfolding isName negOf binary argumentsOf bind negIs
   neg-name (num z) w n h = n
@@ -461,10 +457,6 @@ module _ (σ : Assignment) where
   two-stmt l r a b =
       let t : T (isArithmetic l && (isArithmetic r && true)) = and-mk (isArithmetic l) _ a (and-mk (isArithmetic r) true b tt) in
       (t, t, t, t, or-l (isArithmetic l && (isArithmetic r && true)) _ t)
-    where
-      or-l : (x y : Bool) → T x → T (x || y)
-      or-l true y t = tt
-      or-l false y t = absurd t
 
   gt-truth : (s t : Term) → truth σ (app gt (cons s (cons t nil))) ≡ ltZ (val σ t) (val σ s)
   unfolding truth truthOp pairOf vals

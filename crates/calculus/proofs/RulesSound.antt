@@ -17,29 +17,12 @@ use Rattle.calculus.specs.Sums.{orBad, Entry, Inequality, Lit, Reduced, 
 use Rattle.calculus.specs.Terms.{Term, Terms, add, app, conj, cons, eq, sameInteger, ge, gt, le, lt, mul, nil, num, sub, var}
 use Rattle.calculus.specs.Truth.{Assignment, Satisfies, allB, areArithmetic, areStatements, arithmeticOp, bit, isArithmetic, isStatement, pairOf, statementOp, truth, truthOp, truths, two, val, vals}
 use Rattle.calculus.specs.Words.{Res, bad, ensure, ok}
-use Rattle.calculus.proofs.Booleans.{and-l, and-r}
+use Rattle.calculus.proofs.Booleans.{and-l, and-r, or-first, or-cases, yes-no, not-not}
 use Rattle.calculus.proofs.Reading.{IneqRead, IsLit, asConstant-ok, binary-ok, bind-ok, ensure-ok, ge-sat, ineq-distinct, ineq-ok, lit-ok, litVal, litVal-opp, ok-bad, ok-inj, orBad-ok, term-read, argumentsOf-ok}
 use Rattle.calculus.proofs.Reduction.{distinct-reduce, total-reduce}
 use Rattle.calculus.proofs.SubAdditive.{Any, SubAdd, div-sub, min-sub, times-sub}
 use Rattle.calculus.proofs.SumLaws.{scale, Distinct, Same, distinct-put, get-missing, same, same?, total, total-ext, total-put, recoef, get-recoef, distinct-recoef}
 use Rattle.calculus.proofs.TermLaws.{sameInteger-eq, sameInteger-no, sameTerm-eq}
-
-or-first : (a b : Bool) → T (a || b) → T (not b) → T a
-or-first true b t n = tt
-or-first false true t n = absurd n
-or-first false false t n = t
-
-or-cases : (a b : Bool) → T (a || b) → T a ⊎ T b
-or-cases true b t = inl tt
-or-cases false b t = inr t
-
-yes-no : (c : Bool) → T c ⊎ T (not c)
-yes-no true = inl tt
-yes-no false = inr tt
-
-T-nn : (c : Bool) → T c → T (not (not c))
-T-nn true t = tt
-T-nn false t = t
 
 pub all-at : (p : Entry → Bool) (k : Lit) (E : List Entry) → T (all p E) → T (has k E) → T (p (entry k (get k E)))
 unfolding all has get
@@ -70,7 +53,7 @@ by-point f z A C s t k = go (yes-no (has k A)) (yes-no (has k C))
     v = and-r (keysIn A C) _ s
 
     go : T (has k A) ⊎ T (not (has k A)) → T (has k C) ⊎ T (not (has k C)) → f (get k A) ≡ get k C
-    go (inl h) (inl i) = sameInteger-eq (f (get k A)) (get k C) (or-second (not (has k C)) (sameInteger (f (get k A)) (get k C)) (all-at (λ e. not (has (e .lit) C) || sameInteger (f (e .coefficient)) (get (e .lit) C)) k A t h) (T-nn (has k C) i))
+    go (inl h) (inl i) = sameInteger-eq (f (get k A)) (get k C) (or-second (not (has k C)) (sameInteger (f (get k A)) (get k C)) (all-at (λ e. not (has (e .lit) C) || sameInteger (f (e .coefficient)) (get (e .lit) C)) k A t h) (not-not (has k C) i))
       where
         or-second : (a b : Bool) → T (a || b) → T (not a) → T b
         or-second true b t n = absurd n

@@ -1,21 +1,23 @@
 -- Commands within the limits whose names and numerals are in range are what their own words are read as.
 use mathlib.Core.Path.{_≡_, refl, sym, ap, subst, _∙_}
-use mathlib.Core.Bool.{Bool, true, false, not, cond, _&&_, _||_}
+use mathlib.Core.Bool.{Bool, true, false, cond, _&&_, _||_}
 use mathlib.Core.List.{List, [], _∷_, _++_}
-use Prim.Native.Nat.{ℕ, zero, suc, _+_, _/_, _%_, _≤_, _<_}
+use Prim.Native.Nat.{ℕ, suc, _+_, _≤_}
 use native.Mathlib.Omega.{arith}
-use lib.Dec.{T, not-T, eqb, eqb→eq, leb, le→leb, ltb, ltb→lt, nltb→le}
+use lib.Dec.{T, not-T, eqb, eqb→eq, leb}
 use lib.IntN.{ℤ, pos, negsuc, natAbs}
 use lib.ListN.{length, drop, length-append}
 use lib.Seq.{take-append-seam, drop-append-seam, drop-drop, drop-length}
 use Rattle.calculus.specs.Bytes.{isBlank, isDigit, isLetter, inName, inWord, classOf}
 use Rattle.calculus.specs.Commands.{whole, readFile}
-use Rattle.calculus.specs.Terms.{Op, add, sub, mul, ge, gt, le, lt, eq, conj, Term, Terms, num, var, app, nil, cons, listed, Rule, addition, multiplication, division, saturation, literal, normalize, transfer, part, ruleText, Command, assume, step, sameName}
-use Rattle.calculus.specs.Words.{Res, ok, bad, bind, ensure, Mark, opening, closing, cl-word, assume-word, step-word, rule-word, premises-word, args-word, Word, mark, operator, numeral, name, decimalFrom, decimal, integerText, operatorText, markText, wordText, digits, valueFrom, leadingZero, maxNumeral, magnitude, negative, numeralOf, digitFirst, numeralFirst, nameBytes, isNameText, maxName, nameOf, fixedWords, fixedOr, wordOf, word, wrong, span, judged, tokenFrom, tokenBehind, tokenAt}
+use Rattle.calculus.specs.Terms.{Op, add, sub, mul, ge, gt, le, lt, eq, conj, Term, Terms, num, var, app, nil, cons, listed, Rule, addition, multiplication, division, saturation, literal, normalize, transfer, part, ruleText, Command, assume, step}
+use Rattle.calculus.specs.Words.{ok, bind, Mark, opening, closing, cl-word, assume-word, step-word, rule-word, premises-word, args-word, Word, mark, operator, numeral, name, decimal, integerText, operatorText, markText, wordText, digits, maxNumeral, magnitude, negative, numeralOf, digitFirst, numeralFirst, nameBytes, isNameText, wordOf, word, wrong, span, judged, tokenFrom, tokenBehind, tokenAt}
 use Rattle.calculus.specs.Writing.{termWords, termsWords, nameWords, premisesWords, argsWords, commandWords, wordsOf, Has, Spells, maxText, Limits}
-use Rattle.calculus.proofs.Booleans.{and-l, and-r, and-mk, is-true, is-false}
+use Rattle.calculus.proofs.Booleans.{or-elim, or-l, or-r, and-l, and-r, and-mk, is-true, is-false}
 use Rattle.calculus.proofs.CompleteFile.{complete}
 use Rattle.calculus.proofs.Computing.{computing}
+use Rattle.calculus.proofs.Decimal.{decimal-is, decimal-magnitude}
+use Rattle.calculus.proofs.Names.{word-name}
 use Rattle.calculus.proofs.Reading.{ok-bad}
 
 -- ---- texts of words
@@ -36,87 +38,11 @@ unfoldable pub AllInRange : List Word → Type 0
 AllInRange [] = Unit {0}
 AllInRange (w ∷ ws) = InRange w × AllInRange ws
 
--- ---- the digits of a number
-digit-is : (n : ℕ) → n < 10 → T (isDigit (48 + n))
-unfolding isDigit
-digit-is n h = and-mk (leb 48 (48 + n)) _ (le→leb 48 (48 + n) (omega arith)) (le→leb (48 + n) 57 (omega arith))
-
--- bs is n in decimal, and then the digits ds
-record Decimal (n : ℕ) (ds bs : List ℕ) : Type 0 where
-  all : T (digits bs)
-  front : T (digitFirst bs)
-  value : valueFrom 0 bs ≡ valueFrom n ds
-  plain : 0 < n → T (not (leadingZero bs))
-
--- so are the digits that decimalFrom writes, where it has enough steps
-decimal-from : (f n : ℕ) (ds : List ℕ) → n < f → T (digits ds) → Decimal n ds (decimalFrom f n ds)
-unfolding decimalFrom digits digitFirst valueFrom leadingZero
-decimal-from zero n ds h d = let v : ⊥ = omega arith in absurd v
-decimal-from (suc f) n ds h d = go (ltb n 10) (ltb→lt n 10) (nltb→le n 10) (λ k. decimal-from f (n / 10) ((48 + n % 10) ∷ ds) k (and-mk (isDigit (48 + n % 10)) _ (digit-is (n % 10) (omega arith)) d))
-  where
-    plain : (ds : List ℕ) → 0 < n → T (not (leadingZero ((48 + n) ∷ ds)))
-    plain [] k = tt
-    plain (b ∷ ds) k = not-T (eqb (48 + n) 48) (λ t. let e : 48 + n ≡ 48 = eqb→eq (48 + n) 48 t in omega arith)
-
-    more : List ℕ
-    more = decimalFrom f (n / 10) ((48 + n % 10) ∷ ds)
-
-    go : (c : Bool) → (T c → n < 10) → (T (not c) → 10 ≤ n) → (n / 10 < f → Decimal (n / 10) ((48 + n % 10) ∷ ds) more) → Decimal n ds (cond c ((48 + n) ∷ ds) more)
-    go true l g r =
-        let k : T (isDigit (48 + n)) = digit-is n (l tt) in
-        record { all = and-mk (isDigit (48 + n)) _ k d; front = k; value = ap (λ (m : ℕ). valueFrom m ds) (omega arith); plain = plain ds }
-    go false l g r =
-        let k : 10 ≤ n = g tt in
-        let i = r (omega arith) in
-        record {
-          all = i .all;
-          front = i .front;
-          value = i .value ∙ ap (λ (m : ℕ). valueFrom m ds) (omega arith);
-          plain = λ z. i .plain (omega arith);
-        }
-
-ensure-yes : {A : Type 0} (c : Bool) (n : ℕ) (r : Res A) → T c → ensure c n r ≡ r
-unfolding ensure
-ensure-yes true n r t = refl
-ensure-yes false n r t = absurd t
-
-magnitude-is : (bs : List ℕ) (n : ℕ) → T (digits bs) → T (not (leadingZero bs)) → valueFrom 0 bs ≡ n → n ≤ maxNumeral → magnitude bs ≡ ok n
-unfolding magnitude
-magnitude-is bs n d z e h =
-    ensure-yes (digits bs) 4 _ d
-    ∙ ensure-yes (not (leadingZero bs)) 4 _ z
-    ∙ ensure-yes (leb (valueFrom 0 bs) maxNumeral) 4 _ (le→leb (valueFrom 0 bs) maxNumeral (omega arith))
-    ∙ ap ok e
-
-decimal-is : (n : ℕ) → Decimal n [] (decimal n)
-unfolding decimal digits
-decimal-is n = decimal-from (suc n) n [] (omega arith) tt
-
--- a number in range is read from its digits
-decimal-magnitude : (n : ℕ) → n ≤ maxNumeral → magnitude (decimal n) ≡ ok n
-unfolding valueFrom
-decimal-magnitude zero h = unfold magnitude decimal decimalFrom digits isDigit leadingZero ensure in refl
-decimal-magnitude (suc n) h =
-    let d = decimal-is (suc n) in
-    magnitude-is (decimal (suc n)) (suc n) (d .all) (d .plain (omega arith)) (d .value) h
-
 -- ---- bytes of words
 -- every byte may stand in a word
 wordBytes : List ℕ → Bool
 wordBytes [] = true
 wordBytes (b ∷ bs) = inWord b && wordBytes bs
-
-or-elim : {P : Type 0} (a b : Bool) → (T a → P) → (T b → P) → T (a || b) → P
-or-elim true b f g t = f t
-or-elim false b f g t = g t
-
-or-l : (a b : Bool) → T a → T (a || b)
-or-l true b t = tt
-or-l false b t = absurd t
-
-or-r : (a b : Bool) → T b → T (a || b)
-or-r true b t = tt
-or-r false b t = t
 
 -- what holds of the four blanks holds of every blank
 blank-cases : (P : ℕ → Type 0) → P 32 → P 10 → P 9 → P 13 → (b : ℕ) → T (isBlank b) → P b
@@ -201,47 +127,9 @@ operator-word lt = (refl, tt)
 operator-word eq = (refl, tt)
 operator-word conj = (refl, tt)
 
--- what is read as a name has a name's bytes
-named : Res Word → Bool
-named (ok (mark m)) = true
-named (ok (operator o)) = true
-named (ok (numeral z)) = true
-named (ok (name x)) = isNameText x
-named (bad n) = true
-
-named-or : (c : Bool) (a b : Res Word) → T (named a) → T (named b) → T (named (cond c a b))
-named-or true a b p q = p
-named-or false a b p q = q
-
-named-numeral : (r : Res ℤ) → T (named (bind r (λ z. ok (numeral z))))
-unfolding named bind
-named-numeral (ok z) = tt
-named-numeral (bad n) = tt
-
-named-name : (bs : List ℕ) → T (named (nameOf bs))
-unfolding named nameOf ensure
-named-name bs = go (isNameText bs) (leb (length bs) maxName) (λ t. t)
-  where
-    go : (c d : Bool) → (T c → T (isNameText bs)) → T (named (ensure (c && d) 5 (ok (name bs))))
-    go true true h = h tt
-    go true false h = tt
-    go false d h = tt
-
-allNamed : List Word → Bool
-allNamed [] = true
-allNamed (w ∷ ws) = named (ok w) && allNamed ws
-
-named-fixed : (ws : List Word) (bs : List ℕ) → T (allNamed ws) → T (named (fixedOr ws bs))
-unfolding allNamed fixedOr
-named-fixed [] bs h = named-name bs
-named-fixed (w ∷ ws) bs h = named-or (sameName (wordText w) bs) _ _ (and-l (named (ok w)) _ h) (named-fixed ws bs (and-r (named (ok w)) _ h))
-
 -- a name is read from its bytes
 name-word : (x : List ℕ) → wordOf x ≡ ok (name x) → IsWord x (name x)
-unfolding named allNamed fixedWords wordOf
-name-word x e =
-    let h : T (named (wordOf x)) = named-or (numeralFirst x) _ _ (named-numeral (numeralOf x)) (named-fixed fixedWords x tt) in
-    (e, name-words x (subst (λ (r : Res Word). T (named r)) e h))
+name-word x e = (e, name-words x (word-name x x e))
 
 -- ---- the token that a word is written as
 -- a word reaches to its last byte

@@ -13,7 +13,7 @@ use Rattle.calculus.specs.Terms.{Command, Rule, Term, assume, sameIntege
 use Rattle.calculus.specs.Truth.{isStatement}
 use Rattle.calculus.specs.Words.{Res, ok, bad, bind, ensure}
 
--- a rule over the premises' clauses, the arguments and the conclusion
+-- the answer of a step: its rule over the premises' clauses, the arguments and the conclusion
 unfoldable pub applyRule : Rule → List (List Term) → List Term → List Term → Res Bool
 applyRule addition = cpAddition
 applyRule multiplication = cpMultiplication
@@ -32,16 +32,17 @@ pub record Line : Type 0 where
   pub answer : Res Bool
   pub holds : Bool
 
--- no on refused steps
+-- `plain` is no on refused steps
 unfoldable pub plainOf : Res Bool → Bool
 plainOf (ok b) = b
 plainOf (bad n) = false
 
--- the answer
+-- the answer number: 0 for an accepted step
 unfoldable pub numberOf : Res Bool → ℕ
 numberOf (ok b) = 0
 numberOf (bad n) = n
 
+-- what no cited premise reaches: ids are defined above
 abbrev pub noLine : Line
 noLine = record { id = []; rule = []; clause = []; answer = bad 8; holds = false }
 

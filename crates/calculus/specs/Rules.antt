@@ -16,6 +16,7 @@ single [] = bad 21
 single (t ∷ []) = ok t
 single (t ∷ (u ∷ r)) = bad 21
 
+-- no argument
 unfoldable pub none : {A : Type 0} → List A → Bool
 none [] = true
 none (a ∷ r) = false
@@ -33,15 +34,15 @@ both (a ∷ []) = bad 20
 both (a ∷ (b ∷ [])) = ok (a, b)
 both (a ∷ (b ∷ (c ∷ r))) = bad 20
 
--- coefficients, skipping zero ones of the conclusion
+-- every coefficient of the conclusion that is not zero is the reduced one
 unfoldable pub coefficientsAre : List Entry → List Entry → Bool
 coefficientsAre R C = all (λ e. sameInteger (e .coefficient) (pos 0) || sameInteger (get (e .lit) R) (e .coefficient)) C
 
--- no zero of the conclusion faces a nonzero coefficient
+-- no zero of the conclusion faces a nonzero reduced coefficient
 unfoldable pub zerosFaceZeros : List Entry → List Entry → Bool
 zerosFaceZeros R C = all (λ e. not (sameInteger (e .coefficient) (pos 0)) || sameInteger (get (e .lit) R) (pos 0)) C
 
--- constants 29, keys 30, coefficients 31
+-- left + right constant = conclusion's + slack, 29; keys, 30; coefficients, 31
 unfoldable pub addCheck : Inequality → Inequality → Inequality → Reduced → Res Bool
 addCheck L R C D =
     ensure (sameInteger (L .const +ℤ R .const) (C .const +ℤ D .slack)) 29
@@ -102,16 +103,16 @@ litPlainIf (bad n) t = t
 unfoldable pub litPlain : Term → Term
 litPlain t = litPlainIf (negOf t) t
 
--- (>= s 0)
+-- s of `(>= s 0)`
 unfoldable pub ge0 : Term → Res Term
 ge0 t = bind (binary ge t) (λ p. bind (asConstant (p .1)) (λ k. ensure (sameInteger k (pos 0)) 0 (ok (p .0))))
 
--- `(* c l)`: 24, 34, 35
+-- `(* c l)` against the argument a: 24, 34, 35; any other term goes the way r
 unfoldable pub litProd : Term → Res (Term × Term) → Res Bool → Res Bool
 litProd a (ok p) r = bind (orBad 24 (asConstant (p .0))) (λ c. ensure (sameInteger c (pos 1)) 34 (ensure (sameTerm (p .1) a) 35 (ok true)))
 litProd a (bad n) r = r
 
--- cp_literal: 21, 22, 33, then the patterns, else 36; premises are not counted
+-- cp_literal: 21, 22, 33, then `(>= (* c (- 1 l)) 0)`, `(>= (* c l) 0)`, `(>= (- 1 l) 0)`, `(>= l 0)`, else 36; premises are not counted
 unfoldable pub cpLiteral : List (List Term) → List Term → List Term → Res Bool
 cpLiteral ps xs c =
     bind (single c) (λ t. bind (one 22 xs) (λ a. ensure (isName (litPlain a)) 33
