@@ -2,7 +2,8 @@
 
 `texts(seed, count)` gives `count` texts, each of at most 500 bytes and about six commands. Steps are
 built by applying their rule, so that they are accepted; about half of them are then made into near
-misses. Other texts are damaged copies of such files, or have one wrong token at any place.
+misses, some with several faults, so that the order of the checks shows. Other texts are damaged copies
+of such files, or have a wrong token at any place.
 """
 import random
 
@@ -14,9 +15,11 @@ MAX_BYTES = 500
 NAMES = ("x", "y", "z")
 RELATIONS = (">=", ">", "<=", "<", "=")
 OPERATORS = ("+", "-", "*", "and") + RELATIONS
-RULES = (
-    "cp_addition", "cp_multiplication", "cp_division", "cp_saturation", "cp_literal", "cp_normalize",
-    "cp_transfer", "cp_part")
+# The rules, each with the numbers of premises and arguments that an accepted step has.
+COUNTS = {
+    "cp_addition": (2, 0), "cp_multiplication": (1, 1), "cp_division": (1, 1), "cp_saturation": (1, 0),
+    "cp_literal": (0, 1), "cp_normalize": (0, 0), "cp_transfer": (2, 0), "cp_part": (1, 1)}
+RULES = tuple(COUNTS)
 
 
 def apply(operator, *arguments):
@@ -42,6 +45,11 @@ def tokens_of(term):
     return ["(", term.operator] + inner + [")"]
 
 
+def bracketed(parts):
+    """The words and brackets of a command with these parts."""
+    return ["("] + [token for part in parts for token in part] + [")"]
+
+
 class Step:
     """A command while it is being made; an assumption has the rule `assume`."""
 
@@ -52,18 +60,22 @@ class Step:
         self.premises = list(premises)
         self.arguments = list(arguments)
 
-    def tokens(self):
-        """The words and brackets of the command."""
+    def parts(self):
+        """The words and brackets of the command's parts, without the brackets around all."""
         clause = [token for term in self.clause for token in tokens_of(term)]
         if self.rule == "assume":
-            return ["(", "assume", self.name] + clause + [")"]
-        tokens = ["(", "step", self.name, "(", "cl"] + clause + [")", ":rule", self.rule]
+            return [["assume", self.name], clause]
+        parts = [["step", self.name], ["(", "cl"] + clause + [")"], [":rule", self.rule]]
         if self.premises:
-            tokens += [":premises", "("] + [premise.name for premise in self.premises] + [")"]
+            parts.append([":premises", "("] + [premise.name for premise in self.premises] + [")"])
         if self.arguments:
             inner = [token for term in self.arguments for token in tokens_of(term)]
-            tokens += [":args", "("] + inner + [")"]
-        return tokens + [")"]
+            parts.append([":args", "("] + inner + [")"])
+        return parts
+
+    def tokens(self):
+        """The words and brackets of the command."""
+        return bracketed(self.parts())
 
 
 class Maker:
@@ -109,6 +121,12 @@ class Maker:
             return summands[0]
         return apply("+", *summands)
 
+    def zero_summand(self):
+        """Mostly nothing, else a summand with coefficient 0, often of a term that is no name."""
+        if self.chance(92):
+            return []
+        return [apply("*", 0, self.odd_variable() if self.chance(40) else self.literal())]
+
     def pbsum(self, nonnegative=False):
         """A sum as section 2 reads it; literals repeat and meet their negations."""
         count = self.rng.choice((0, 1, 1, 2, 2, 3))
@@ -116,7 +134,7 @@ class Maker:
         for _ in range(count):
             number = self.number()
             summands.append(apply("*", abs(number) if nonnegative else number, self.literal()))
-        return self.sum_of(summands)
+        return self.sum_of(summands + self.zero_summand())
 
     def written_sum(self, numbers):
         """A mapping of literals to numbers as a sum, in another order, split or with zeros.
@@ -132,6 +150,7 @@ class Maker:
                 summands.append(apply("*", 1, factor))
                 number -= 1
             summands.append(apply("*", number, factor))
+        summands += self.zero_summand()
         if self.chance(30):
             self.rng.shuffle(summands)
         return self.sum_of(summands)
@@ -226,8 +245,8 @@ class Maker:
             lambda number, _: truncated_quotient(number + divisor - 1, divisor))
 
     def cp_saturation(self):
-        """The smaller of coefficient and constant."""
-        return self.scaled("cp_saturation", None, min, nonnegative=True)
+        """The smaller of coefficient and constant; negative numbers (32) are seldom."""
+        return self.scaled("cp_saturation", None, min, nonnegative=self.chance(88))
 
     def cp_literal(self):
         """The four forms of `l >= 0`; premises are not counted and now and then cited."""
@@ -258,7 +277,7 @@ class Maker:
     def written_entry(self, entry):
         """An entry as a summand: `(* c l)`, `(* l c)`, or `l` alone for coefficient 1."""
         factor = negation(entry.variable) if entry.negated else entry.variable
-        if entry.negated and self.chance(4):
+        if entry.negated and self.chance(7):
             factor = negation(negation(entry.variable))
         if entry.coefficient == 1 and self.chance(60):
             return factor
@@ -364,17 +383,17 @@ class Maker:
     def missed_sum(self, step):
         """A conclusion with another constant, coefficient or literal, a key less, a key more."""
         numbers, constant = read_inequality(step)
+        if self.chance(25):
+            constant = self.rng.choice((constant + 1, constant - 1, -constant, "x"))
         key = self.rng.choice(list(numbers) or [("x", False)])
         way = self.rng.randrange(7)
-        if way == 0:
-            constant += self.rng.choice((-1, 1))
-        elif way in (1, 2):
+        if way in (0, 1):
             numbers[key] = self.rng.choice((numbers.get(key, 0) + 1, numbers.get(key, 0) - 1, 0))
-        elif way == 3:
+        elif way == 2:
             numbers.pop(key, None)
-        elif way == 4:
+        elif way == 3:
             numbers[key[0], not key[1]] = numbers.pop(key, 1)
-        else:
+        elif way == 4:
             numbers.setdefault((self.variable(), self.chance(50)), self.rng.choice((0, 0, 1)))
         step.clause = [inequality(self.written_sum(numbers), constant)]
 
@@ -386,39 +405,45 @@ class Maker:
             apply(self.rng.choice("+-*"), left, right), apply("and", relation), left,
             apply(self.rng.choice(RELATIONS), left, right), apply(relation.operator, right, left)))
 
-    def missed_half(self, entries, constant):
-        """A normalized inequality with a constant product (38), no constant (24), another entry (39)."""
+    def missed_entries(self, entries):
+        """Entries with one sign or coefficient changed, in another order, or one less."""
+        if not entries:
+            return entries
         entries = list(entries)
-        place = self.rng.randrange(len(entries)) if entries else None
-        way = self.rng.randrange(7)
-        if way == 0:
-            product = self.rng.choice((apply("*", 2, 3), apply("*", 0, 1), 3))
-            return inequality(apply("+", *map(self.written_entry, entries), product), constant)
-        if way == 1:
-            return self.written_half(entries, self.rng.choice(("x", apply("-", 1))))
-        if way == 2:
-            return apply(self.rng.choice(OPERATORS), *self.written_half(entries, constant).arguments)
-        if way == 3 or place is None:
-            return self.written_half(entries, constant + self.rng.choice((-1, 1)))
-        if way == 4:
+        place = self.rng.randrange(len(entries))
+        way = self.rng.randrange(5)
+        if way in (0, 1):
             entries[place] = entries[place]._replace(negated=not entries[place].negated)
-        elif way == 5:
+        elif way == 2:
             entries[place] = entries[place]._replace(coefficient=entries[place].coefficient + 1)
-        else:
+        elif way == 3:
             self.rng.shuffle(entries)
-        return self.written_half(entries, constant)
+        else:
+            entries.pop()
+        return entries
+
+    def missed_half(self, entries, constant):
+        """A normalized inequality with faults for 39, 38, 29 or 24, and 23, each by itself."""
+        if self.chance(45):
+            entries = self.missed_entries(entries)
+        summands = [self.written_entry(entry) for entry in entries]
+        if self.chance(20):
+            summands.append(self.rng.choice((apply("*", 2, 3), apply("*", 0, 1), 3)))
+        if self.chance(40):
+            constant = self.rng.choice((constant + 1, constant - 1, "x", apply("-", 1)))
+        operator = self.rng.choice(OPERATORS) if self.chance(12) else ">="
+        return apply(operator, self.sum_of(summands), constant)
 
     def missed_normalization(self, step):
-        """A near miss of a normalization: of its relation, of one half, or of the halves' order."""
+        """A near miss of a normalization: of its relation, of the halves, or of their order."""
         relation, normalized = step.clause[0].arguments
         halves = normalized_halves(relation)
-        written_halves = [self.written_half(*half) for half in halves]
+        written_halves = [
+            self.missed_half(*half) if self.chance(70) else self.written_half(*half) for half in halves]
         way = self.rng.randrange(10)
-        if way < 3:
+        if way < 2:
             relation = self.missed_relation(relation)
         elif way < 9:
-            place = self.rng.randrange(len(halves))
-            written_halves[place] = self.missed_half(*halves[place])
             normalized = joined(written_halves)
         else:
             first = written_halves[0]
@@ -440,6 +465,8 @@ class Maker:
             self.missed_normalization(step)
         elif step.rule == "cp_literal":
             self.missed_literal(step)
+        elif step.rule == "cp_transfer" and self.chance(25):
+            step.clause, step.premises[0].clause = step.premises[0].clause, step.clause
         elif step.rule in ("cp_transfer", "cp_part"):
             step.clause = [self.changed(step.clause[0])]
         elif step.arguments and self.chance(20):
@@ -469,24 +496,35 @@ class Maker:
         elif others:
             step.premises.append(self.rng.choice(others))
 
+    def missed_clause(self, step):
+        """A clause of another length, or of another shape."""
+        step.clause = self.rng.choice(([], step.clause * 2, step.clause + ["x"], [self.odd_inequality()]))
+
+    def missed_rule(self, step):
+        """The same step under any rule."""
+        step.rule = self.rng.choice(RULES)
+
+    def missed_start(self, _step):
+        """A change in the file's first command, which may be a premise."""
+        first = self.steps[0]
+        first.clause = [self.changed(term) for term in first.clause]
+
     def missed(self, step):
-        """A near miss of an accepted step."""
-        way = self.rng.randrange(100)
-        if way < 40:
+        """A near miss of an accepted step, with one to three faults."""
+        if self.chance(65):
             self.missed_by_rule(step)
-        elif way < 54:
+        elif self.chance(40):
             step.clause = [self.changed(step.clause[0])]
-        elif way < 60:
-            step.clause = self.rng.choice(([], step.clause * 2, step.clause + ["x"], [self.odd_inequality()]))
-        elif way < 75:
-            self.missed_arguments(step)
-        elif way < 88:
-            self.missed_premises(step)
-        elif way < 92:
-            step.rule = self.rng.choice(RULES)
         else:
-            first = self.steps[0]
-            first.clause = [self.changed(term) for term in first.clause]
+            self.missed_otherwise(step)
+        while self.chance(25):
+            self.missed_otherwise(step)
+
+    def missed_otherwise(self, step):
+        """A fault that any step can have."""
+        self.rng.choice((
+            self.missed_clause, self.missed_clause, self.missed_arguments, self.missed_arguments,
+            self.missed_premises, self.missed_premises, self.missed_rule, self.missed_start))(step)
 
     def odd_premise(self, step):
         """A step over a premise just before it: one that section 2 does not read, or another length."""
@@ -509,10 +547,9 @@ class Maker:
             if len(self.steps) >= 4:
                 break
             step = getattr(self, self.rng.choice(RULES))()
-            way = self.rng.randrange(100)
-            if way < 42:
+            if self.chance(38):
                 self.missed(step)
-            elif way < 50:
+            if self.chance(8):
                 self.odd_premise(step)
 
     def statements(self):
@@ -521,6 +558,29 @@ class Maker:
             self.assume(self.formula(2))
         if self.chance(40):
             self.assumed_refutation()
+
+    def count_near(self, count):
+        """The count, seldom another."""
+        return count if self.chance(75) else self.rng.randrange(4)
+
+    def small_inequality(self):
+        """A short inequality, about half of them with one fault or two."""
+        sum_term = self.rng.choice((0, 0, apply("*", 2, "x"), apply("*", -1, "x"), "x", 4, apply("*", "x", 2)))
+        operator = self.rng.choice((">=", ">=", ">=", ">=", ">=", "<"))
+        return apply(operator, sum_term, self.rng.choice((0, 0, 1, 1, -1, "x")))
+
+    def faults(self):
+        """Short steps with several faults at once, so that the order of the answers 20 to 36 shows."""
+        self.assume(self.small_inequality())
+        self.assume(self.small_inequality())
+        self.add(self.rng.choice(RULES), self.rng.choice(([], ["x", "x"])))
+        for _ in range(3):
+            rule = self.rng.choice(RULES)
+            premises, arguments = map(self.count_near, COUNTS[rule])
+            self.add(
+                rule, [self.small_inequality() for _ in range(self.count_near(1))],
+                [self.rng.choice((self.steps[0],) * 3 + tuple(self.steps)) for _ in range(premises)],
+                [self.rng.choice((0, 1, 2, 2, -1, "x", 3)) for _ in range(arguments)])
 
     def tokens(self):
         """The words and brackets of the file."""
@@ -618,7 +678,7 @@ def damaged(rng, text):
 # Tokens that offend somewhere: bad bytes (3), numerals (4), words of no kind (5), then tokens of each
 # kind, which break the grammar (6) or name nothing (8) where another one has to stand.
 OFFENDING = (
-    b"\x00", b"\x80", b"\x7f", b"\x0c", b"x\x00", b"1\xff",
+    b"\x00", b"\x80", b"\x7f", b"\x0b", b"x\x00", b"1\xff", b"x\x00y",
     b"-0", b"007", b"00", b"1x", b"-1.", b"-01", b"100000000", b"-100000000", b"5>=", b"99999999999999999999",
     b";x", b"+1", b"--1", b"-x", b">==", b"=>", b".x", b":rul", b":rules", b":", b"x:", b"x-y", b"!", b"~x",
     b"a" * 33, b"\"x\"",
@@ -628,11 +688,12 @@ OFFENDING = (
 
 
 def with_offence(rng, tokens):
-    """A file with one token of `OFFENDING` put in or in place of another, at any place."""
-    place = rng.randrange(len(tokens) + 1)
+    """A file with a token of `OFFENDING` put in or in place of another, at any place, seldom two."""
     parts = [token.encode("ascii") for token in tokens]
-    kept_from = place if rng.randrange(3) == 0 else place + 1
-    parts[place:kept_from] = [rng.choice(OFFENDING)]
+    for _ in range(rng.choice((1, 1, 1, 2))):
+        place = rng.randrange(len(parts) + 1)
+        kept_from = place if rng.randrange(3) == 0 else place + 1
+        parts[place:kept_from] = [rng.choice(OFFENDING)]
     return b" ".join(parts)
 
 
@@ -641,6 +702,33 @@ def with_dropped_token(rng, tokens):
     place = rng.randrange(len(tokens))
     count = rng.choice((1, 1, 2, 3, len(tokens)))
     return written(rng, tokens[:place] + tokens[place + count:])
+
+
+def with_emptied_bracket(rng, tokens):
+    """A file with nothing, or only the first word, left in one pair of brackets."""
+    start = rng.choice([place for place, token in enumerate(tokens) if token == "("])
+    end, depth = start, 1
+    while depth:
+        end += 1
+        depth += {"(": 1, ")": -1}.get(tokens[end], 0)
+    return written(rng, tokens[:start + rng.choice((1, 1, 2))] + tokens[end:])
+
+
+def with_mixed_parts(rng, maker):
+    """A file in which one command's parts are exchanged, doubled or dropped."""
+    chosen = rng.choice(maker.steps)
+    parts = chosen.parts()
+    one, other = rng.randrange(len(parts)), rng.randrange(len(parts))
+    way = rng.randrange(3)
+    if way == 0:
+        parts[one], parts[other] = parts[other], parts[one]
+    elif way == 1:
+        parts.insert(one, parts[other])
+    else:
+        del parts[one]
+    return written(rng, [
+        token for step in maker.steps
+        for token in (bracketed(parts) if step is chosen else step.tokens())])
 
 
 def with_bad_reference(rng, maker):
@@ -677,16 +765,22 @@ def one_text(rng):
         maker.refutation()
     elif way < 9:
         maker.statements()
+    elif way < 16:
+        maker.faults()
     else:
         maker.proof()
-    if way < 74:
+    if way < 75:
         return written(rng, maker.tokens())
-    if way < 82:
+    if way < 81:
         return damaged(rng, written(rng, maker.tokens()))
-    if way < 92:
+    if way < 89:
         return with_offence(rng, maker.tokens())
-    if way < 96:
+    if way < 91:
         return with_dropped_token(rng, maker.tokens())
+    if way < 93:
+        return with_emptied_bracket(rng, maker.tokens())
+    if way < 96:
+        return with_mixed_parts(rng, maker)
     return with_bad_reference(rng, maker)
 
 

@@ -1,3 +1,4 @@
+pub mod ComputedDivision
 pub mod Parts
 pub mod Laws
 pub mod Signed
