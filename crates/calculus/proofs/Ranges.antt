@@ -21,11 +21,11 @@ maxConstant = maxSummands * (maxNumeral * maxNumeral)
 pub added-fits : {a b : ℤ} → Within maxTotal a → Within maxTotal b → SFits w64 (a +ℤ b)
 added-fits v w = fits-within (omega arith) (within-add v w)
 
--- reduce_pbsum: the difference of two totals of an addition, and the slack of at most 1,024 keys
+-- reduce_pbsum: the difference of two totals of an addition, and the slack over the keys of two sums
 pub reduced-fits : {a b : ℤ} → Within (2 * maxTotal) a → Within (2 * maxTotal) b → SFits w64 (a -ℤ b)
 reduced-fits v w = fits-within (omega arith) (within-sub v w)
 
-pub slack-fits : {s a : ℤ} → Within (1024 * (2 * maxTotal)) s → Within (2 * maxTotal) a → SFits w64 (s +ℤ a)
+pub slack-fits : {s a : ℤ} → Within (2 * maxSummands * (2 * maxTotal)) s → Within (2 * maxTotal) a → SFits w64 (s +ℤ a)
 slack-fits v w = fits-within (omega arith) (within-add v w)
 
 -- cp_multiplication: a numeral times a total

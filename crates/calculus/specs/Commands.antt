@@ -1,7 +1,7 @@
 -- The grammar of commands as a function, and the reading of a text: its commands, or the leftmost refusal and its byte (01, section 1).
 use mathlib.Core.Bool.{cond}
 use mathlib.Core.List.{List, [], _∷_, _++_}
-use Prim.Native.Nat.{ℕ, zero, suc}
+use Prim.Native.Nat.{ℕ, zero, suc, _+_, _*_}
 use lib.Dec.{leb, ltb}
 use lib.ListN.{length}
 use Rattle.calculus.specs.Grammar.{Reads, got, off, then, sameMark, expect, onOption, nameAt, closeAt, onItem, term, items}
@@ -11,7 +11,7 @@ use Rattle.calculus.specs.Writing.{known, maxText, maxNodes, maxCommands
 
 -- more steps than a text of maxText bytes can take
 abbrev pub enough : ℕ
-enough = 65538
+enough = 2 * maxText + 2
 
 -- an id not used above: else 8
 unfoldable pub newId : {A : Type 0} → List Command → List ℕ → ℕ → (List ℕ → ℕ → Reads A) → Reads A
