@@ -16,6 +16,7 @@ opNum lt = 6
 opNum eq = 7
 opNum conj = 8
 
+-- the same operator
 abbrev pub sameOp : Op → Op → Bool
 sameOp a b = eqb (opNum a) (opNum b)
 

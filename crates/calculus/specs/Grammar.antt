@@ -14,11 +14,13 @@ pub data Reads (A : Type 0) : Type 0 where
   got : A → ℕ → ℕ → Reads A
   off : ℕ → ℕ → Reads A
 
+-- go on with what was read
 unfoldable pub then : {A B : Type 0} → Reads A → (A → ℕ → ℕ → Reads B) → Reads B
 then (got a t n) k = k a t n
 then (off e p) k = off e p
 
 -- ---- single words
+-- marks by number, to compare them
 unfoldable pub markNumber : Mark → ℕ
 markNumber opening = 0
 markNumber closing = 1
@@ -29,9 +31,11 @@ markNumber rule-word = 5
 markNumber premises-word = 6
 markNumber args-word = 7
 
+-- the same mark
 unfoldable pub sameMark : Mark → Mark → Bool
 sameMark a b = eqb (markNumber a) (markNumber b)
 
+-- by the token: anything else is 6
 unfoldable pub onMark : {A : Type 0} → Mark → (ℕ → Reads A) → Token → Reads A
 onMark m k (ended p) = off 6 p
 onMark m k (word (mark a) p t) = cond (sameMark a m) (k t) (off 6 p)
@@ -44,6 +48,7 @@ onMark m k (wrong e p) = off e p
 unfoldable pub expect : {A : Type 0} → Mark → List ℕ → ℕ → (ℕ → Reads A) → Reads A
 expect m s at k = onMark m k (tokenAt s at)
 
+-- where the mark m stands, go on behind it; else r
 unfoldable pub onOption : {A : Type 0} → Mark → (ℕ → Reads A) → Reads A → Token → Reads A
 onOption m k r (ended p) = r
 onOption m k r (word (mark a) p t) = cond (sameMark a m) (k t) r
@@ -61,6 +66,7 @@ onName k (word (numeral z) p t) = off 6 p
 onName k (word (name x) p t) = k x p t
 onName k (wrong e p) = off e p
 
+-- the same from byte `at` on
 unfoldable pub nameAt : {A : Type 0} → List ℕ → ℕ → (List ℕ → ℕ → ℕ → Reads A) → Reads A
 nameAt s at k = onName k (tokenAt s at)
 
@@ -73,6 +79,7 @@ onClose (word (numeral z) p t) = 0
 onClose (word (name x) p t) = 0
 onClose (wrong e p) = 0
 
+-- the same from byte `at` on
 unfoldable pub closeAt : List ℕ → ℕ → ℕ
 closeAt s at = onClose (tokenAt s at)
 
@@ -87,6 +94,7 @@ pub data Head : Type 0 where
 unfoldable pub limited : ℕ → ℕ → ℕ → Head → Head
 limited l n p h = cond (leb l maxDepth && ltb n maxNodes) h (stop 7 p)
 
+-- behind the bracket of an application
 unfoldable pub onOperator : Token → Head
 onOperator (ended p) = stop 6 p
 onOperator (word (mark a) p t) = stop 6 p
@@ -95,6 +103,7 @@ onOperator (word (numeral z) p t) = stop 6 p
 onOperator (word (name x) p t) = stop 6 p
 onOperator (wrong e p) = stop e p
 
+-- by the token, for a term of level l with n nodes before it
 unfoldable pub onTerm : List ℕ → ℕ → ℕ → Token → Head
 onTerm s l n (ended p) = stop 6 p
 onTerm s l n (word (mark a) p t) = cond (sameMark a opening) (limited l n p (onOperator (tokenAt s t))) (stop 6 p)
@@ -103,9 +112,11 @@ onTerm s l n (word (numeral z) p t) = limited l n p (leaf (num z) t)
 onTerm s l n (word (name x) p t) = limited l n p (leaf (var x) t)
 onTerm s l n (wrong e p) = stop e p
 
+-- how the term from byte `at` on begins
 unfoldable pub headAt : List ℕ → ℕ → ℕ → ℕ → Head
 headAt s at l n = onTerm s l n (tokenAt s at)
 
+-- a leaf is one node more; an application goes on behind its operator
 unfoldable pub onHead : (Op → ℕ → Reads Term) → ℕ → Head → Reads Term
 onHead k n (leaf x t) = got x t (suc n)
 onHead k n (start o t) = k o t
