@@ -3,7 +3,8 @@
 Compares the formal definitions with the reference by computation, on the examples of document 01 and
 COUNT generated texts. Each text becomes a theorem, `reportOf text ≡ the reference's report`, proved by
 computing both sides, in a temporary repository that holds copies of the crates. Prints what was
-compared and each text that differs; the exit status is 0 only if all agree.
+compared and each text that differs, or whose computation ended without a verdict (a text of several
+thousand bytes can be too long for the prover); the exit status is 0 only if all agree.
 """
 import collections
 import os
@@ -13,6 +14,8 @@ import subprocess
 import sys
 import tempfile
 
+sys.dont_write_bytecode = True
+
 from examples import examples
 from generate import texts
 from reference import report
@@ -21,8 +24,7 @@ CRATES = os.path.join(os.path.dirname(os.path.abspath(__file__)), "..", "..", "c
 COPIED = ("integer", "calculus")
 ORDER = "integer:\ncalculus: integer\nsample: calculus integer\n"
 HEAD = """use mathlib.Core.Path.{_≡_, refl}
-use mathlib.Core.List.{List, [], _∷_, map}
-use Prim.Native.Nat.{ℕ}
+use mathlib.Core.List.{[], _∷_}
 use Rattle.calculus.specs.Report.{reportOf}
 use Rattle.calculus.proofs.Computing.{computing}
 """
@@ -109,13 +111,16 @@ def main():
     with tempfile.TemporaryDirectory() as folder:
         write_repository(folder, theorems(compared, reports))
         status, output = prove(folder)
+    if status == 0:
+        print("all %d agree" % len(compared))
+        return 0
     differing = sorted(set(map(int, re.findall(r"error: `text-(\d+)`", output))))
     for place in differing:
-        print("\ntext %d differs:\n%r\nreference:\n%s" % (place, compared[place], reports[place].decode("ascii")))
-    if status != 0 and not differing:
+        print("\ntext %d:\n%r\nreference:\n%s" % (place, compared[place], reports[place].decode("ascii")))
+    print("%d differ%s" % (len(differing), " or have no verdict" if "no verdict" in output else ""))
+    if not differing:
         print(output)
-    print("%d of %d texts differ" % (len(differing), len(compared)) if differing else "rt: exit status %d" % status)
-    return 0 if status == 0 else 1
+    return 1
 
 
 if __name__ == "__main__":
