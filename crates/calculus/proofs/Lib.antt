@@ -27,3 +27,4 @@ pub mod Decimal
 pub mod Written
 pub mod Proper
 pub mod Soundness
+pub mod Refutation
