@@ -172,7 +172,8 @@ class Maker:
 
         The earlier one may be refused, not plain or no statement, so that it does not hold.
         """
-        earlier = [step for step in self.steps if readable(step)]
+        usable = is_nonnegative if nonnegative else readable
+        earlier = [step for step in self.steps if usable(step)]
         if earlier and self.chance(55):
             return self.rng.choice(earlier)
         constant = self.number()
@@ -383,10 +384,10 @@ class Maker:
     def missed_sum(self, step):
         """A conclusion with another constant, coefficient or literal, a key less, a key more."""
         numbers, constant = read_inequality(step)
-        if self.chance(25):
-            constant = self.rng.choice((constant + 1, constant - 1, -constant, "x"))
         key = self.rng.choice(list(numbers) or [("x", False)])
-        way = self.rng.randrange(7)
+        way = self.rng.randrange(6)
+        if way == 5 or self.chance(20):
+            constant = self.rng.choice((constant + 1, constant - 1, -constant, "x"))
         if way in (0, 1):
             numbers[key] = self.rng.choice((numbers.get(key, 0) + 1, numbers.get(key, 0) - 1, 0))
         elif way == 2:
@@ -455,8 +456,8 @@ class Maker:
         """A literal with another coefficient (34, 24), another sign or name (35), of no form (36)."""
         literal = step.arguments[0]
         sum_term = self.rng.choice((
-            apply("*", self.rng.choice((0, 2, -1, "x")), literal), negation(literal), apply("*", 1, negation(literal)),
-            self.rng.choice(NAMES), apply("*", literal, 1), apply("*", 1, 1, literal)))
+            apply("*", self.rng.choice((0, 2, -1, "x")), literal), apply("*", 1, negation(literal)),
+            negation(literal), self.rng.choice(NAMES), apply("*", literal, 1), apply("*", 1, 1, literal)))
         step.clause = [apply(">=", sum_term, self.rng.choice((0, 0, 0, 0, 1)))]
 
     def missed_by_rule(self, step):
@@ -623,6 +624,14 @@ def read_inequality(step):
     return unwrap_pseudoboolean_inequality(step.clause[0])
 
 
+def is_nonnegative(step):
+    """Whether the step is readable and has no negative number."""
+    if not readable(step):
+        return False
+    numbers, constant = read_inequality(step)
+    return min(constant, *numbers.values(), 0) == 0
+
+
 def arguments_under(step, operator):
     """The arguments of the step's only term where it applies the operator, else nothing."""
     term = step.clause[0] if len(step.clause) == 1 else None
@@ -732,17 +741,18 @@ def with_mixed_parts(rng, maker):
 
 
 def with_bad_reference(rng, maker):
-    """Refusal 8: an id used twice, a premise not above, the step's own id, an unknown rule."""
-    step = rng.choice(maker.steps)
+    """Refusal 8: an id used twice, a rule unknown, a premise of its own id, from below or from nowhere."""
     way = rng.randrange(4)
-    if way == 0:
-        step.name = rng.choice(maker.steps).name
+    steps = [step for step in maker.steps if step.rule != "assume"]
+    if way == 0 or not steps:
+        rng.choice(maker.steps).name = rng.choice(maker.steps).name
     elif way == 1:
-        step.premises.insert(rng.randrange(len(step.premises) + 1), rng.choice(maker.steps))
-    elif way == 2:
-        step.premises.append(Step(rng.choice(("x", "q", "cp_part")), "assume", ["x"]))
-    elif step.rule != "assume":
-        step.rule = rng.choice(("foo", "cp_add", "x", "a", "resolution", "CP_ADDITION"))
+        rng.choice(steps).rule = rng.choice(("foo", "cp_add", "x", "a", "resolution", "CP_ADDITION"))
+    else:
+        step = rng.choice(steps)
+        nowhere = Step(rng.choice(("x", "q", "cp_part")), "assume", ["x"])
+        cited = rng.choice(maker.steps) if way == 2 else nowhere
+        step.premises.insert(rng.randrange(len(step.premises) + 1), cited)
     return written(rng, maker.tokens())
 
 
