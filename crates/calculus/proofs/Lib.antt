@@ -21,8 +21,8 @@ pub mod Names
 pub mod Inversion
 pub mod Faithful
 pub mod FaithfulFile
-pub mod Complete
-pub mod CompleteFile
+pub mod Readable
+pub mod ReadableFile
 pub mod Decimal
 pub mod Written
 pub mod Proper

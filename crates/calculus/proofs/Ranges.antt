@@ -5,7 +5,7 @@ use lib.IntN.{ℤ, pos, _+ℤ_, _-ℤ_, _*ℤ_}
 use mir.Syntax.{w64}
 use mir.Val.{SFits}
 use Rattle.integer.specs.Integers.{Within}
-use Rattle.integer.proofs.Bounds.{within-pos, within-add, within-sub, within-mul, fits-within}
+use Rattle.integer.proofs.Fits.{within-pos, within-add, within-sub, within-mul, fits-within}
 use Rattle.calculus.specs.Sums.{maxSummands}
 use Rattle.calculus.specs.Words.{maxNumeral}
 

@@ -12,7 +12,7 @@ use Rattle.calculus.specs.Commands.{Read}
 use Rattle.calculus.specs.Marks.{run}
 use Rattle.calculus.specs.Report.{lineText, totalsText, reportLines, reportRead, reportOf, minReport, minTable, written}
 use Rattle.calculus.specs.Terms.{Command}
-use Rattle.calculus.proofs.CompleteFile.{complete}
+use Rattle.calculus.proofs.ReadableFile.{complete}
 use Rattle.calculus.proofs.Demand.{demand3}
 use Rattle.calculus.proofs.Lines.{CleanLines, CleanIds, run-clean, render-lines, totals-line, last-line, ends-refuted, marked-line}
 use Rattle.calculus.proofs.Names.{ids-clean}
