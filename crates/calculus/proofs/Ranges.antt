@@ -1,4 +1,5 @@
--- What document 01's limits leave of an i64: each number that a rule computes fits (01, section 9).
+-- Operations of the rules on operands within the bounds that document 01's limits suggest fit an i64 (01, section 9).
+-- That what is read from a file keeps these bounds is for the code that reads it to show.
 use Prim.Native.Nat.{ℕ, _*_}
 use native.Mathlib.Omega.{arith}
 use lib.IntN.{ℤ, pos, _+ℤ_, _-ℤ_, _*ℤ_}

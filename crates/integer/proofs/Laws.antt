@@ -4,20 +4,16 @@ use mathlib.Core.Logic.{_⊎_, inl, inr, ⊎-elim}
 use mathlib.Core.Bool.{Bool, true, false, not, cond}
 use Prim.Native.Nat.{ℕ, zero, suc, _+_, _*_, _/_, _≤_, _<_}
 use native.Mathlib.Nat.{zero-div, div-add-mod, mod-lt, div-eq-of-lt, div-le-self, lt-of-mul-lt-mul-left, mul-le-mul-right}
-use native.Mathlib.Decide.{decLe}
 use native.Mathlib.Omega.{arith}
 use lib.Dec.{T, lt→ltb, nleb→lt}
 use lib.IntN.{ℤ, pos, negsuc, negℤ, _+ℤ_, _-ℤ_, _*ℤ_}
 use lib.Signed.{mag, leZ, quotZ, _≤ℤ_, _<ℤ_, leZ-yes}
 use Rattle.integer.specs.Integers.{minZ, divUp}
-use Rattle.integer.proofs.Parts.{up, dn, up-pos, dn-pos, up-neg, dn-neg, le-in, le-out, apart, int, link, ‹_›, lit, _⊕_, _⊖_, _⊗_}
+use Rattle.integer.proofs.Parts.{up, dn, up-pos, dn-pos, up-neg, dn-neg, le-in, apart, int, link, ‹_›, lit, _⊕_, _⊖_, _⊗_}
 
 -- ---- the order
 pub ≤-trans : {a b c : ℤ} → a ≤ℤ b → b ≤ℤ c → a ≤ℤ c
 ≤-trans {a} {b} {c} h k = omega int
-
-pub ≤-total : (a b : ℤ) → (a ≤ℤ b) ⊎ (b ≤ℤ a)
-≤-total a b = elim (decLe (up a + dn b) (up b + dn a)) [ yes h ↦ inl (le-out h) | no h ↦ inr (omega int) ]
 
 pub leZ-no : (a b : ℤ) → T (not (leZ a b)) → b <ℤ a
 leZ-no (pos a) (pos b) t = record { lt = lt→ltb b a (nleb→lt a b t) }
@@ -59,14 +55,6 @@ min-add {k} {a} {b} h x y = ⊎-elim
     (λ (q : (k ≤ℤ b) × (minZ k b ≡ k)). omega (int, min-l k (a +ℤ b), link (‹ minZ k a › ⊕ ‹ minZ k b ›), link (lit 0)))
     (λ (q : (b ≤ℤ k) × (minZ k b ≡ b)). omega (int, min-r k (a +ℤ b), link (‹ a › ⊕ ‹ b ›), link (‹ minZ k a › ⊕ ‹ minZ k b ›))) (min-cases k b))
     (min-cases k a)
-
-pub size-min : (a b : ℤ) → up (minZ a b) + dn (minZ a b) ≤ (up a + dn a) + (up b + dn b)
-unfolding minZ
-size-min a b = by (leZ a b)
-  where
-    by : (t : Bool) → up (cond t a b) + dn (cond t a b) ≤ (up a + dn a) + (up b + dn b)
-    by true = omega arith
-    by false = omega arith
 
 -- ---- division
 up-quot : (t : ℤ) (d : ℕ) → up (quotZ t (pos d)) ≡ up t / d
