@@ -1,0 +1,16 @@
+-- What is in use of the tables lies in them.
+use mathlib.Core.Path.{_≡_, subst}
+use mathlib.Core.List.{List}
+use Prim.Native.Nat.{ℕ, _≤_}
+use native.Mathlib.Omega.{arith}
+use lib.ListN.{length}
+use Rattle.calculus.specs.Report.{minTable}
+use Rattle.calculus.specs.Writing.{maxNodes, maxCommands}
+use Rattle.reader.specs.Commands.{allWords}
+use Rattle.reader.specs.Reading.{ReadsFile}
+use Rattle.reader.specs.declared.Whole.{Whole}
+use Rattle.reader.specs.declared.Whole.the-variants.{All}
+
+pub in-use : (s t u w x : List ℕ) (r : Whole) (k n c : ℕ) → ReadsFile s t u w x r → r ≡ All k n c → (k ≤ maxCommands) × (allWords ≤ length x) × (n ≤ maxNodes) × (c ≤ maxNodes) × (minTable ≤ length u)
+in-use s t u w x r k n c h e =
+    let (a, table, b, d) = subst (ReadsFile s t u w x) e h in (d .few, d .room, table .few, omega (arith, table .few, table .used), table .room)

@@ -1,0 +1,127 @@
+// Prints what is read of the text on standard input: its refusal in one line; or the counts, then a line for each command, node and
+// child word of the tables.
+use libc::STDIN_FILENO;
+use libc::STDOUT_FILENO;
+use reader::Whole;
+use reader::read_file;
+ghost use Prim.Native.Nat.{_≤_};
+ghost use lib.ListN.{length};
+ghost use Rattle.calculus.specs.Report.{minTable};
+ghost use Rattle.calculus.specs.Writing.{maxNodes, maxCommands};
+ghost use Rattle.reader.specs.Commands.{allWords};
+
+// One byte more than a text may have, and the words of the tables.
+const TEXT_BYTES: usize = 32769;
+
+const NODE_WORDS: usize = 16384;
+
+const COMMAND_WORDS: usize = 4608;
+
+// The first words of the commands behind their ids, and of the children.
+const COMMAND_BASE: usize = 1024;
+
+const CHILD_BASE: usize = 12288;
+
+// Writes bytes.
+fn put(text: &[u8]) {
+    io::write_all(STDOUT_FILENO, text);
+}
+
+// Writes a number behind a text.
+fn put_number(before: &[u8], n: u64) {
+    put(before);
+    io::print_decimal(STDOUT_FILENO, n);
+}
+
+// Writes a word behind a blank.
+fn put_word(word: u32) {
+    put_number(b" ", word as u64);
+}
+
+// Writes the words from..to.
+fn put_words(words: &[u32], from: usize, to: usize)
+    requires { ⌜ to ≤ length (now words) ⌝ }
+{
+    let mut i = from;
+    while i < to {
+        put_word(words[i]);
+        i += 1;
+    }
+}
+
+// A line for each of the k commands: the bytes of its id, its kind and its parts.
+fn put_commands(commands: &[u32], k: usize)
+    requires { ⌜ (k ≤ maxCommands) × (allWords ≤ length (now commands)) ⌝ }
+{
+    let mut i = 0;
+    while i < k {
+        put(b"command");
+        put_words(commands, 2 * i, 2 * i + 2);
+        put_words(commands, COMMAND_BASE + 7 * i, COMMAND_BASE + 7 * i + 7);
+        put(b"\n");
+        i += 1;
+    }
+}
+
+// A line for each of the n nodes: its kind and two words.
+fn put_nodes(nodes: &[u32], n: usize)
+    requires { ⌜ (n ≤ maxNodes) × (minTable ≤ length (now nodes)) ⌝ }
+{
+    let mut i = 0;
+    while i < n {
+        put(b"node");
+        put_words(nodes, 3 * i, 3 * i + 3);
+        put(b"\n");
+        i += 1;
+    }
+}
+
+// A line for each of the c child words.
+fn put_children(nodes: &[u32], c: usize)
+    requires { ⌜ (c ≤ maxNodes) × (minTable ≤ length (now nodes)) ⌝ }
+{
+    let mut i = CHILD_BASE;
+    while i < CHILD_BASE + c {
+        put(b"child");
+        put_word(nodes[i]);
+        put(b"\n");
+        i += 1;
+    }
+}
+
+// The line of the counts, then those of the commands, the nodes and the child words.
+fn put_tables(nodes: &[u32], commands: &[u32], k: usize, n: usize, c: usize)
+    requires { ⌜ (k ≤ maxCommands) × (allWords ≤ length (now commands)) × (n ≤ maxNodes) × (c ≤ maxNodes) × (minTable ≤ length (now nodes)) ⌝ }
+{
+    put_number(b"commands=", k as u64);
+    put_number(b" nodes=", n as u64);
+    put_number(b" children=", c as u64);
+    put(b"\n");
+    put_commands(commands, k);
+    put_nodes(nodes, n);
+    put_children(nodes, c);
+}
+
+// The line of a refusal.
+fn put_refusal(number: u8, byte: usize) {
+    put_number(b"refused=", number as u64);
+    put_number(b" byte=", byte as u64);
+    put(b"\n");
+}
+
+// Reads a text into the lent tables and prints what was read.
+fn put_read(text: &[u8], nodes: &mut [u32], commands: &mut [u32]) {
+    match read_file(text, nodes, commands) {
+        Whole::All(k, n, c) => put_tables(nodes, commands, k, n, c),
+        Whole::Refused(number, byte) => put_refusal(number, byte),
+        Whole::Small => {}
+    }
+}
+
+fn main() {
+    let mut text = [0u8; TEXT_BYTES];
+    let mut nodes = [0u32; NODE_WORDS];
+    let mut commands = [0u32; COMMAND_WORDS];
+    let got = io::read_full(STDIN_FILENO, &mut text);
+    put_read(&text[..got], &mut nodes, &mut commands);
+}

@@ -1,0 +1,5 @@
+pub mod Places
+pub mod Naming
+pub mod Parsing
+pub mod Pending
+pub mod Steps
