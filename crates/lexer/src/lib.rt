@@ -90,23 +90,19 @@ fn class_in_table(b: u8) -> u8
     CLASS[i] - b'0'
 }
 
-// The class of a byte. Most bytes of a text are told at once, by their range; any other by the table, which is laid out
-// anew at each use.
+// The class of a byte. The bytes that texts are mostly made of are told by their ranges, going up; the table, which is laid
+// out anew at each use, tells the others.
 pub fn class(b: u8) -> u8
     ensures { λ r. ⌜ r ≡ classOf b ⌝ }
 {
-    if b'a' <= b {
-        if b <= b'z' {
-            return LETTER;
-        }
-    }
-    if b'0' <= b {
-        if b <= b'9' {
-            return DIGIT;
-        }
-    }
     if b == b' ' {
         return BLANK;
+    }
+    if b == b'\n' {
+        return BLANK;
+    }
+    if b < b'(' {
+        return class_in_table(b);
     }
     if b == b'(' {
         return OPENS;
@@ -114,26 +110,26 @@ pub fn class(b: u8) -> u8
     if b == b')' {
         return CLOSES;
     }
-    if b'*' <= b {
-        if b <= b'/' {
-            return OTHER;
-        }
+    if b < b'0' {
+        return OTHER;
     }
-    if b':' <= b {
-        if b <= b'?' {
-            return OTHER;
-        }
+    if b <= b'9' {
+        return DIGIT;
     }
-    if b'@' <= b {
-        if b <= b'Z' {
-            return LETTER;
-        }
+    if b < b'@' {
+        return OTHER;
+    }
+    if b <= b'Z' {
+        return LETTER;
     }
     if b == b'_' {
         return LETTER;
     }
-    if b == b'\n' {
-        return BLANK;
+    if b < b'a' {
+        return class_in_table(b);
+    }
+    if b <= b'z' {
+        return LETTER;
     }
     class_in_table(b)
 }
