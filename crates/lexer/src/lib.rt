@@ -90,19 +90,51 @@ fn class_in_table(b: u8) -> u8
     CLASS[i] - b'0'
 }
 
-// The class of a byte. The bytes that texts are mostly made of are told by their ranges, going up; the table, which is laid
-// out anew at each use, tells the others.
-pub fn class(b: u8) -> u8
+// The class of a byte: operators, capitals, `_` and line feeds by their ranges, any other byte by the table.
+fn rarer_class(b: u8) -> u8
     ensures { λ r. ⌜ r ≡ classOf b ⌝ }
 {
-    if b == b' ' {
-        return BLANK;
+    if b'*' <= b {
+        if b <= b'/' {
+            return OTHER;
+        }
+    }
+    if b':' <= b {
+        if b <= b'?' {
+            return OTHER;
+        }
+    }
+    if b'@' <= b {
+        if b <= b'Z' {
+            return LETTER;
+        }
+    }
+    if b == b'_' {
+        return LETTER;
     }
     if b == b'\n' {
         return BLANK;
     }
-    if b < b'(' {
-        return class_in_table(b);
+    class_in_table(b)
+}
+
+// The class of a byte. The bytes that texts are mostly made of are told at once, and last of all by the table, which is laid
+// out anew at each use.
+pub fn class(b: u8) -> u8
+    ensures { λ r. ⌜ r ≡ classOf b ⌝ }
+{
+    if b'a' <= b {
+        if b <= b'z' {
+            return LETTER;
+        }
+    }
+    if b'0' <= b {
+        if b <= b'9' {
+            return DIGIT;
+        }
+    }
+    if b == b' ' {
+        return BLANK;
     }
     if b == b'(' {
         return OPENS;
@@ -110,28 +142,7 @@ pub fn class(b: u8) -> u8
     if b == b')' {
         return CLOSES;
     }
-    if b < b'0' {
-        return OTHER;
-    }
-    if b <= b'9' {
-        return DIGIT;
-    }
-    if b < b'@' {
-        return OTHER;
-    }
-    if b <= b'Z' {
-        return LETTER;
-    }
-    if b == b'_' {
-        return LETTER;
-    }
-    if b < b'a' {
-        return class_in_table(b);
-    }
-    if b <= b'z' {
-        return LETTER;
-    }
-    class_in_table(b)
+    rarer_class(b)
 }
 
 // The end of the run of bytes from `at` on whose class is from lo to hi.
