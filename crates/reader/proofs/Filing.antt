@@ -80,9 +80,13 @@ module _ {s t₀ w₀ t w v y : List ℕ} {at k n c : ℕ} (I : Inv s t₀ w₀ 
   file-finish e =
       (step (whole (commandsOf s t w k)) (λ g. rw (commands-long s t w k, lead-finish s at k r q e)), I .table, names-named (I .names), I .listed)
 
+  -- a refusal, with tables that are large enough
+  refusal : (e b : ℕ) (u x : List ℕ) → readFile s ≡ refused e b → ReadsFile s t₀ u w₀ x (RefusedWhole e b)
+  refusal e b u x f = (f, rw (← I .long) (I .table .room), rw (← I .same) (I .listed .room))
+
   pub file-halt : (e b : ℕ) → r ≡ Halt e b → ReadsFile s t₀ t w₀ w (RefusedWhole e b)
   unfolding commands onCommand
-  file-halt e b f = step (refused e b) (λ g. rw (commands-long s t w k, lead-halt s at k r q f))
+  file-halt e b f = refusal e b t w (step (refused e b) (λ g. rw (commands-long s t w k, lead-halt s at k r q f)))
 
   module _ (next : ℕ) (f : r ≡ Begin next) where
     begun : (at < next) × (next ≤ length s) × (k < maxCommands)
@@ -101,10 +105,11 @@ module _ {s t₀ w₀ t w v y : List ℕ} {at k n c : ℕ} (I : Inv s t₀ w₀ 
     command g = rw (commands-long s t w k, lead-begin s at k r q f)
 
     module _ (u x z : List ℕ) (a : code.Read) (A : ReadCommand (λ cs. commandAt cs s next n) s t u w x z next n c k a) where
-      pub file-refused : (e b : ℕ) → a ≡ Refused e b → readFile s ≡ refused e b
+      pub file-refused : (e b : ℕ) → a ≡ Refused e b → ReadsFile s t₀ u w₀ x (RefusedWhole e b)
       unfolding onRead
       file-refused e b p =
-          step (refused e b) (λ g. command g ∙ rw ((subst (ReadCommand (λ cs. commandAt cs s next n) s t u w x z next n c k) p A) (commandsOf s t w k) (commands-named s t w k)))
+          refusal e b u x
+          (step (refused e b) (λ g. command g ∙ rw ((subst (ReadCommand (λ cs. commandAt cs s next n) s t u w x z next n c k) p A) (commandsOf s t w k) (commands-named s t w k))))
 
       module _ (end m d : ℕ) (p : a ≡ Made end m d) where
         pub file-added : Added (λ cs. commandAt cs s next n) s t u w x z next n c k end m d
@@ -159,6 +164,6 @@ module _ {s t₀ w₀ t w v y : List ℕ} {at k n c : ℕ} (I : Inv s t₀ w₀ 
             }
 
 -- a text of more than 32,768 bytes
-pub file-long : (s : List ℕ) → maxText < length s → readFile s ≡ refused 2 maxText
+pub file-long : (s t w : List ℕ) → maxText < length s → minTable ≤ length t → allWords ≤ length w → ReadsFile s t t w w (RefusedWhole 2 maxText)
 unfolding readFile
-file-long s h = rw (lt-leb (length s) maxText h)
+file-long s t w h room words = (rw (lt-leb (length s) maxText h), room, words)

@@ -146,8 +146,8 @@ ReadCommand g s t u w x y at n c k (Refused e b) = (cs : List Command) → Named
 
 -- ---- a whole text
 -- the text s is read: k commands, n nodes and c child words are in use in the tables u and x, and nothing else is needed of them;
--- or it is refused; or a table is too small, and the tables t and w are as they were
+-- or it is refused; or one of the tables t and w is too small, and both are as they were
 abbrev pub ReadsFile : (s t u w x : List ℕ) → Whole → Type 0
 ReadsFile s t u w x (All k n c) = (readFile s ≡ whole (commandsOf s u x k)) × Table u n c × Named s u n × Commands s u x k n c
-ReadsFile s t u w x (RefusedWhole e b) = readFile s ≡ refused e b
+ReadsFile s t u w x (RefusedWhole e b) = (readFile s ≡ refused e b) × (minTable ≤ length t) × (allWords ≤ length w)
 ReadsFile s t u w x Small = ((minTable ≤ length t → allWords ≤ length w → ⊥)) × (u ≡ t) × (x ≡ w)

@@ -40,7 +40,7 @@ numbered s t u w x (b ∷ a) (suc (suc n)) p h l q = (l, q)
 -- the text is refused
 pub refuses : (s t u w x a : List ℕ) (r : Whole) (e p : ℕ) → Lent t w a → ReadsFile s t u w x r → r ≡ Refused e p → Answers s t u w x a (set a 0 p) e
 refuses s t u w x a r e p l h q =
-    let k : readFile s ≡ refused e p = subst (ReadsFile s t u w x) q h in numbered s t u w x a e p (proper s e p k .low) l k
+    let k : readFile s ≡ refused e p = subst (ReadsFile s t u w x) q h .0 in numbered s t u w x a e p (proper s e p k .low) l k
 
 -- what is lent is large enough: no table is too small
 pub never : (s t u w x a : List ℕ) (r : Whole) → Lent t w a → ReadsFile s t u w x r → r ≡ Small → ⊥
