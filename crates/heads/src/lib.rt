@@ -26,16 +26,16 @@ ghost use Rattle.heads.specs.Heads.{headOf, HeadIn, StartIn, leadOf, Lea
 // The limits.
 const MAX_DEPTH: usize = 64;
 
-const MAX_NODES: usize = 4096;
+pub const MAX_NODES: usize = 4096;
 
 const MAX_COMMANDS: usize = 512;
 
 // What a text is refused by.
 const GRAMMAR: u8 = 6;
 
-const TOO_MANY: u8 = 7;
+pub const TOO_MANY: u8 = 7;
 
-const UNDEFINED: u8 = 8;
+pub const UNDEFINED: u8 = 8;
 
 // How a term begins: a numeral's sign and magnitude, a name's bytes, the operator of an application, each with where
 // the text goes on (a name's at its end); or a refusal and its byte.

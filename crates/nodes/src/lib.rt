@@ -8,13 +8,15 @@ ghost use Rattle.calculus.specs.Writing.{maxNodes};
 ghost use Rattle.nodes.specs.Nodes.{plusKind, childBase, kindAt, firstAt, secondAt, childrenAt, Node, put};
 ghost use Rattle.nodes.specs.Equal.{Pair, SameIs, Parts, AllSame};
 
-// Kinds: operators are below, a numeral from 0 on is this one, and a numeral below 0 the next; variables are from NAME_KIND on.
-const PLUS_KIND: u32 = 9;
+// Kinds: operators are below these; a numeral from 0 on, a numeral below 0, and from here on variables.
+pub const PLUS_KIND: u32 = 9;
 
-const NAME_KIND: u32 = 11;
+pub const MINUS_KIND: u32 = 10;
+
+pub const NAME_KIND: u32 = 11;
 
 // The first child word.
-const CHILD_BASE: usize = 12288;
+pub const CHILD_BASE: usize = 12288;
 
 // Writes node n.
 pub fn put_node(nodes: &mut [u32], n: usize, kind: u32, a: u32, b: u32)

@@ -2,6 +2,10 @@
 // child word of the tables.
 use libc::STDIN_FILENO;
 use libc::STDOUT_FILENO;
+use nodes::CHILD_BASE;
+use reader::COMMAND_WORDS;
+use reader::ID_WORDS;
+use reader::NODE_WORDS;
 use reader::Whole;
 use reader::read_file;
 ghost use Prim.Native.Nat.{_≤_};
@@ -10,17 +14,8 @@ ghost use Rattle.calculus.specs.Report.{minTable};
 ghost use Rattle.calculus.specs.Writing.{maxNodes, maxCommands};
 ghost use Rattle.reader.specs.Commands.{allWords};
 
-// One byte more than a text may have, and the words of the tables.
+// One byte more than a text may have.
 const TEXT_BYTES: usize = 32769;
-
-const NODE_WORDS: usize = 16384;
-
-const COMMAND_WORDS: usize = 4608;
-
-// The first words of the commands behind their ids, and of the children.
-const COMMAND_BASE: usize = 1024;
-
-const CHILD_BASE: usize = 12288;
 
 // Writes bytes.
 fn put(text: &[u8]) {
@@ -57,7 +52,7 @@ fn put_commands(commands: &[u32], k: usize)
     while i < k {
         put(b"command");
         put_words(commands, 2 * i, 2 * i + 2);
-        put_words(commands, COMMAND_BASE + 7 * i, COMMAND_BASE + 7 * i + 7);
+        put_words(commands, ID_WORDS + 7 * i, ID_WORDS + 7 * i + 7);
         put(b"\n");
         i += 1;
     }

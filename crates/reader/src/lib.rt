@@ -2,9 +2,12 @@
 use heads::Kind;
 use heads::Lead;
 use heads::ListHead;
+use heads::MAX_NODES;
 use heads::NameAt;
 use heads::RuleHead;
 use heads::Step;
+use heads::TOO_MANY;
+use heads::UNDEFINED;
 use heads::clause_head;
 use heads::closes;
 use heads::command_head;
@@ -17,6 +20,7 @@ use lexer::ARGS_WORD;
 use lexer::CLOSING;
 use lexer::PREMISES_WORD;
 use lexer::RULE_WORD;
+use nodes::PLUS_KIND;
 use nodes::put_children;
 use nodes::put_node;
 use terms::Items;
@@ -37,28 +41,19 @@ ghost use Rattle.nodes.specs.Nodes.{childrenAt, decode, Table};
 ghost use Rattle.reader.specs.Commands.{allWords, pair, Put};
 ghost use Rattle.reader.specs.Reading.{clauseAt, ruleFrom, citedFrom, endingAt, Ready, Ids, Headed, NewId, PremiseAt, ReadSection, ReadOne, ReadPremises, ReadCommand, ReadsFile};
 
-// The limits of a text.
+// The longest text.
 const MAX_TEXT: usize = 32768;
 
-const MAX_NODES: usize = 4096;
-
 // The words of the lent tables.
-const NODE_WORDS: usize = 16384;
+pub const NODE_WORDS: usize = 16384;
 
-const COMMAND_WORDS: usize = 4608;
+pub const COMMAND_WORDS: usize = 4608;
 
 // The words of 512 ids, before those of the commands.
-const ID_WORDS: usize = 1024;
+pub const ID_WORDS: usize = 1024;
 
-// What a text is refused by.
+// What a longer text is refused by.
 const TOO_LONG: u8 = 2;
-
-const TOO_MANY: u8 = 7;
-
-const UNDEFINED: u8 = 8;
-
-// The kind of a numeral, which a cited premise is as a node.
-const NUMERAL: u32 = 9;
 
 // The kind of an assumption, before those of the rules.
 const ASSUMPTION: u32 = 0;
@@ -127,7 +122,7 @@ fn cite(
                 return Items::Off(e, b);
             }
             Premise::Cites(j, t) => {
-                put_node(nodes, n + q, NUMERAL, j as u32, 0);
+                put_node(nodes, n + q, PLUS_KIND, j as u32, 0);
                 pending[q] = j as u32;
                 q += 1;
                 i = t;

@@ -1,13 +1,11 @@
 // The reader as C and Rust call it: a text into lent tables, its answer in a number and three words.
+use reader::COMMAND_WORDS;
+use reader::NODE_WORDS;
 use reader::Whole;
 use reader::read_file;
 ghost use Rattle.reading.specs.Answer.{Answers};
 
-// The words of the lent tables and of the answer.
-const NODE_WORDS: usize = 16384;
-
-const COMMAND_WORDS: usize = 4608;
-
+// The words of the answer.
 const ANSWER_WORDS: usize = 3;
 
 // What is answered where the text is read, and where something lent is too small.

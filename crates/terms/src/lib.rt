@@ -3,6 +3,9 @@ use heads::Head;
 use heads::begin;
 use heads::closes;
 use lexer::same;
+use nodes::MINUS_KIND;
+use nodes::NAME_KIND;
+use nodes::PLUS_KIND;
 use nodes::put_children;
 use nodes::put_node;
 use nodes::wide;
@@ -18,13 +21,6 @@ ghost use Rattle.nodes.specs.Nodes.{put, plusKind, minusKind, nameKind};
 ghost use Rattle.terms.specs.Spans.{Spans, strings};
 ghost use Rattle.terms.specs.Names.{countWord, countOf, numberOf, namesWith};
 ghost use Rattle.terms.specs.Reading.{Ready, ReadTerm, ReadItems};
-
-// The kinds of leaves: a numeral from 0 on, a numeral below 0, and the first name.
-const PLUS: u32 = 9;
-
-const MINUS: u32 = 10;
-
-const NAME: u32 = 11;
 
 // The word that counts the names, behind the words of 4,096 names.
 const COUNT: usize = 8192;
@@ -68,7 +64,7 @@ fn put_variable(text: &[u8], nodes: &mut [u32], names: &mut [u32], n: usize, fro
     ensures { λ _. ⌜ (now (nodes .exit) ≡ put (now (nodes .entry)) n (nameKind + numberOf (now (text .entry)) (now (names .entry)) from to) from to) × (now (names .exit) ≡ namesWith (now (text .entry)) (now (names .entry)) from to) ⌝ }
 {
     let k = number_of(text, names, from, to);
-    put_node(nodes, n, NAME + k as u32, from as u32, to as u32);
+    put_node(nodes, n, NAME_KIND + k as u32, from as u32, to as u32);
 }
 
 // Writes node n, a numeral.
@@ -77,9 +73,9 @@ fn put_numeral(nodes: &mut [u32], n: usize, negative: bool, magnitude: u32)
     ensures { λ _. ⌜ now (nodes .exit) ≡ put (now (nodes .entry)) n (cond negative minusKind plusKind) magnitude 0 ⌝ }
 {
     if negative {
-        put_node(nodes, n, MINUS, magnitude, 0);
+        put_node(nodes, n, MINUS_KIND, magnitude, 0);
     } else {
-        put_node(nodes, n, PLUS, magnitude, 0);
+        put_node(nodes, n, PLUS_KIND, magnitude, 0);
     }
 }
 
