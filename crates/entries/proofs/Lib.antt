@@ -1,0 +1,3 @@
+pub mod Partly
+pub mod Same
+pub mod While

@@ -1,0 +1,21 @@
+-- A list of entries as two lists side by side: the coefficients, and the keys of the literals (01, section 9).
+use mathlib.Core.List.{List, [], _∷_}
+use Prim.Native.Nat.{ℕ, zero, suc}
+use lib.IntN.{ℤ, pos}
+use lib.ListN.{getD}
+use Rattle.calculus.specs.Sums.{Entry, entry}
+use Rattle.calculus.specs.Terms.{Term}
+use Rattle.matching.specs.Matched.{litAt}
+
+-- f i, f (i + 1), .., n of them
+unfoldable pub run : (ℕ → Entry) → ℕ → ℕ → List Entry
+run f i zero = []
+run f i (suc n) = f i ∷ run f (suc i) n
+
+-- entry i of the coefficients cs and the keys ks, where d gives the term of a node
+abbrev pub entryAt : (ℕ → Term) → List ℤ → List ℕ → ℕ → Entry
+entryAt d cs ks i = entry (litAt d (getD ks i 0)) (getD cs i (pos 0))
+
+-- the first n entries
+abbrev pub entries : (ℕ → Term) → List ℤ → List ℕ → ℕ → List Entry
+entries d cs ks n = run (entryAt d cs ks) 0 n

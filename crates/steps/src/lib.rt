@@ -1,0 +1,212 @@
+// The answer of a step of the reader's tables: its rule over the premises' clauses, the arguments and the conclusion.
+use links::word_of;
+use matching::Answer;
+use nodes::CHILD_BASE;
+ghost use mathlib.Core.Path.{_≡_};
+ghost use Prim.Native.Nat.{_≤_, _<_};
+ghost use lib.ListN.{length};
+ghost use Rattle.links.specs.Steps.{AllNodes, Step};
+ghost use Rattle.reader.specs.Commands.{partAt};
+ghost use Rattle.steps.specs.Answers.{Part, Given, NumberIs, StepIs};
+ghost use Rattle.sums.specs.Lists.{Room, maxEntries};
+
+// ---- which word of a command is which: the kind, and the first of the two of each part
+pub const KIND_WORD: usize = 0;
+
+const CLAUSE_WORD: usize = 1;
+
+const PREMISES_WORD: usize = 3;
+
+const ARGUMENTS_WORD: usize = 5;
+
+// ---- the rules' numbers, as the reader gives them; that of cp_part is the last, 7
+pub const ADDITION: usize = 0;
+
+pub const MULTIPLICATION: usize = 1;
+
+pub const DIVISION: usize = 2;
+
+pub const SATURATION: usize = 3;
+
+pub const LITERAL: usize = 4;
+
+pub const NORMALIZE: usize = 5;
+
+pub const TRANSFER: usize = 6;
+
+// The part of command k whose words are j and j + 1.
+fn part_of<'a>(nodes: &'a [u32], commands: &[u32], k: usize, j: usize) -> &'a [u32]
+    requires { ⌜ Part (now nodes) (now commands) k j ⌝ }
+    ensures { λ r. ⌜ now r ≡ partAt (now (nodes .entry)) (now (commands .entry)) k j ⌝ }
+{
+    let from = CHILD_BASE + word_of(commands, k, j);
+    let to = from + word_of(commands, k, j + 1);
+    &nodes[from..to]
+}
+
+// The answer by a rule that reads no sum.
+fn check_terms(
+    nodes: &[u32],
+    commands: &[u32],
+    rule: usize,
+    premises: &[u32],
+    args: &[u32],
+    conclusion: &[u32],
+) -> Answer
+    requires { ⌜ (4 ≤ rule) × (rule ≡ 5 → ⊥) ⌝ }
+    requires { ⌜ Step (now nodes) (now commands) (now premises) (now args) ⌝ }
+    requires { ⌜ AllNodes (now nodes) (now conclusion) ⌝ }
+    ensures { λ r. ⌜ NumberIs rule (now (nodes .entry)) (now (commands .entry)) (now (premises .entry)) (now (args .entry)) (now (conclusion .entry)) r ⌝ }
+{
+    if rule == LITERAL {
+        return links::cp_literal(nodes, commands, premises, args, conclusion);
+    }
+    if rule == TRANSFER {
+        return links::cp_transfer(nodes, commands, premises, args, conclusion);
+    }
+    links::cp_part(nodes, commands, premises, args, conclusion)
+}
+
+// The answer by a rule that maps the sum of one premise: multiplication, division or saturation.
+fn check_map(
+    nodes: &[u32],
+    commands: &[u32],
+    rule: usize,
+    premises: &[u32],
+    args: &[u32],
+    conclusion: &[u32],
+    coeffs: &mut [i64],
+    keys: &mut [u32],
+    slots: &mut [u32],
+    coeffs2: &mut [i64],
+    keys2: &mut [u32],
+    slots2: &mut [u32],
+) -> Answer
+    requires { ⌜ (1 ≤ rule) × (rule < 4) ⌝ }
+    requires { ⌜ Step (now nodes) (now commands) (now premises) (now args) ⌝ }
+    requires { ⌜ AllNodes (now nodes) (now conclusion) ⌝ }
+    requires { ⌜ Room (now coeffs) (now keys) (now slots) ⌝ }
+    requires { ⌜ Room (now coeffs2) (now keys2) (now slots2) ⌝ }
+    ensures { λ r. ⌜ NumberIs rule (now (nodes .entry)) (now (commands .entry)) (now (premises .entry)) (now (args .entry)) (now (conclusion .entry)) r ⌝ }
+{
+    if rule == MULTIPLICATION {
+        return rules::cp_multiplication(
+            nodes,
+            commands,
+            premises,
+            args,
+            conclusion,
+            coeffs,
+            keys,
+            slots,
+            coeffs2,
+            keys2,
+            slots2,
+        );
+    }
+    if rule == DIVISION {
+        return rules::cp_division(
+            nodes,
+            commands,
+            premises,
+            args,
+            conclusion,
+            coeffs,
+            keys,
+            slots,
+            coeffs2,
+            keys2,
+            slots2,
+        );
+    }
+    rules::cp_saturation(
+        nodes,
+        commands,
+        premises,
+        args,
+        conclusion,
+        coeffs,
+        keys,
+        slots,
+        coeffs2,
+        keys2,
+        slots2,
+    )
+}
+
+// The answer of command k, a step: its rule over the premises' clauses, the arguments and the conclusion.
+pub fn check_step(
+    nodes: &[u32],
+    commands: &[u32],
+    k: usize,
+    coeffs: &mut [i64],
+    keys: &mut [u32],
+    slots: &mut [u32],
+    coeffs2: &mut [i64],
+    keys2: &mut [u32],
+    slots2: &mut [u32],
+    coeffs3: &mut [i64],
+    keys3: &mut [u32],
+    slots3: &mut [u32],
+    reduced: &mut [i64],
+) -> Answer
+    requires { ⌜ Given (now nodes) (now commands) k ⌝ }
+    requires { ⌜ Room (now coeffs) (now keys) (now slots) × (maxEntries ≤ length (now reduced)) ⌝ }
+    requires { ⌜ Room (now coeffs2) (now keys2) (now slots2) ⌝ }
+    requires { ⌜ Room (now coeffs3) (now keys3) (now slots3) ⌝ }
+    ensures { λ r. ⌜ StepIs (now (nodes .entry)) (now (commands .entry)) k r ⌝ }
+{
+    let premises = part_of(nodes, commands, k, PREMISES_WORD);
+    let args = part_of(nodes, commands, k, ARGUMENTS_WORD);
+    let conclusion = part_of(nodes, commands, k, CLAUSE_WORD);
+    let rule = word_of(commands, k, KIND_WORD) - 1;
+    if rule == ADDITION {
+        return rules::cp_addition(
+            nodes,
+            commands,
+            premises,
+            args,
+            conclusion,
+            coeffs,
+            keys,
+            slots,
+            coeffs2,
+            keys2,
+            slots2,
+            coeffs3,
+            keys3,
+            slots3,
+            reduced,
+        );
+    }
+    if rule == NORMALIZE {
+        return rules::cp_normalize(
+            nodes,
+            commands,
+            premises,
+            args,
+            conclusion,
+            coeffs,
+            keys,
+            coeffs2,
+            keys2,
+        );
+    }
+    if rule < LITERAL {
+        return check_map(
+            nodes,
+            commands,
+            rule,
+            premises,
+            args,
+            conclusion,
+            coeffs,
+            keys,
+            slots,
+            coeffs2,
+            keys2,
+            slots2,
+        );
+    }
+    check_terms(nodes, commands, rule, premises, args, conclusion)
+}

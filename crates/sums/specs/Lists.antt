@@ -1,0 +1,85 @@
+-- What the lent slices of a sum stand for: its entry list, in order of first appearance (01, sections 2 and 9), and what is kept of them.
+use mathlib.Core.Path.{_≡_}
+use mathlib.Core.Bool.{cond}
+use mathlib.Core.List.{List, [], _∷_}
+use Prim.Native.Nat.{ℕ, zero, suc, _+_, _-_, _*_, _%_, _^_, _≤_, _<_}
+use lib.Dec.{ltb}
+use lib.IntN.{ℤ, pos}
+use lib.ListN.{length, getD}
+use Rattle.integer.specs.Integers.{Within}
+use Rattle.calculus.specs.Sums.{Lit, Entry, sameLit, maxSummands}
+use Rattle.calculus.specs.Words.{Res, ok, bad, maxNumeral}
+use Rattle.calculus.specs.Writing.{maxNodes}
+use Rattle.nodes.specs.Nodes.{nameKind, kindAt, Node}
+use Rattle.matching.specs.Matched.{variableOf}
+
+-- how many entries stand before the first of a literal; all of them where it is no key
+unfoldable pub indexOf : Lit → List Entry → ℕ
+indexOf k [] = 0
+indexOf k (e ∷ E) = cond (sameLit k (e .lit)) 0 (suc (indexOf k E))
+
+-- ---- room: an addition has the keys of two sums
+abbrev pub maxEntries : ℕ
+maxEntries = 1024
+
+-- the slots of the keys over names; this one is for every other key
+abbrev pub noSlot : ℕ
+noSlot = 8192
+
+-- the slot of a key: by its name's number and its sign
+unfoldable pub slotAt : List ℕ → ℕ → ℕ
+slotAt t k =
+    cond (ltb (kindAt t (variableOf k)) nameKind) noSlot
+    (cond (ltb (kindAt t (variableOf k) - nameKind) maxNodes) (2 * (kindAt t (variableOf k) - nameKind) + k % 2) noSlot)
+
+-- the lent slices can hold every sum
+pub record Room (cs : List ℤ) (ks sl : List ℕ) : Type 0 where
+  pub coefficients : maxEntries ≤ length cs
+  pub keys : maxEntries ≤ length ks
+  pub slots : noSlot < length sl
+
+-- the variables of the first n keys are nodes
+abbrev pub Variables : List ℕ → List ℕ → ℕ → Type 0
+Variables t ks n = (i : ℕ) → i < n → Node t (variableOf (getD ks i 0))
+
+-- and stand before m
+abbrev pub Under : ℕ → List ℕ → ℕ → Type 0
+Under m ks n = (i : ℕ) → i < n → variableOf (getD ks i 0) < m
+
+-- the first n coefficients are within B
+abbrev pub Bounded : ℕ → List ℤ → ℕ → Type 0
+Bounded B cs n = (i : ℕ) → i < n → Within B (getD cs i (pos 0))
+
+-- n keys that can be looked up: the slot of a key over a name holds its place; nothing is asked of the other slots
+pub record Fine (t ks sl : List ℕ) (n : ℕ) : Type 0 where
+  pub few : n ≤ maxEntries
+  pub nodes : Variables t ks n
+  pub slots : (i : ℕ) → i < n → slotAt t (getD ks i 0) < noSlot → getD sl (slotAt t (getD ks i 0)) 0 ≡ i
+
+-- n entries that can be read one by one
+pub record Listed (t : List ℕ) (cs : List ℤ) (ks : List ℕ) (n : ℕ) : Type 0 where
+  pub coefficients : n ≤ length cs
+  pub keys : n ≤ length ks
+  pub nodes : Variables t ks n
+
+-- n keys in slices with room
+pub record Keyed (t ks sl : List ℕ) (n : ℕ) : Type 0 where
+  pub fine : Fine t ks sl n
+  pub keys : maxEntries ≤ length ks
+  pub slots : noSlot < length sl
+
+-- ---- bounds (01, section 9): the total of a literal in a sum that was read, and in the sum of two
+abbrev pub maxTotal : ℕ
+maxTotal = maxSummands * maxNumeral
+
+abbrev pub maxAdded : ℕ
+maxAdded = maxTotal + maxSummands * maxTotal
+
+-- what puts an entry stays below
+abbrev pub maxCoefficient : ℕ
+maxCoefficient = 2 ^ 60
+
+-- an answer by its number: 0 for the value
+unfoldable pub resOf : {A : Type 0} → ℕ → A → Res A
+resOf zero a = ok a
+resOf (suc n) a = bad (suc n)
