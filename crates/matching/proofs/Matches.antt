@@ -18,6 +18,7 @@ use Rattle.calculus.specs.Equality.{opNum, opOf, sameOp}
 use Rattle.calculus.specs.Matching.{asConstant, isName, argumentsOf, pair, binary, negOf}
 use Rattle.calculus.specs.Sums.{litIf, litOf, childrenOr, splitSummation}
 use Rattle.calculus.specs.Terms.{Term, app, listed, sameInteger}
+use Rattle.calculus.specs.Writing.{maxNodes}
 use Rattle.calculus.specs.Words.{ok, bad}
 use Rattle.calculus.proofs.TermLaws.{sameInteger-refl}
 use Rattle.calculus.proofs.Booleans.{is-true}
@@ -33,7 +34,7 @@ pub node-room : {t : List ℕ} {i : ℕ} → Node t i → 3 * i + 2 < length t
 node-room N = omega (arith, N .below, N .table .few, N .table .room)
 
 -- a node's number is small
-pub node-few : {t : List ℕ} {i : ℕ} → Node t i → i ≤ 4096
+pub node-few : {t : List ℕ} {i : ℕ} → Node t i → i ≤ maxNodes
 node-few N = omega (arith, N .below, N .table .few)
 
 -- what stands before a node is one

@@ -9,6 +9,7 @@ ghost use mathlib.Core.List.{List, [], _∷_};
 ghost use Prim.Native.Nat.{ℕ, _+_, _*_, _/_, _≤_, _<_};
 ghost use lib.ListN.{length};
 ghost use Rattle.calculus.specs.Matching.{isName};
+ghost use Rattle.calculus.specs.Writing.{maxNodes};
 ghost use Rattle.nodes.specs.Nodes.{plusKind, firstAt, decode, Node};
 ghost use Rattle.matching.specs.Matched.{ConstantIs, PairIs, NegationIs, SplitIs, keyOf, variableOf, negatedOf, LiteralIs};
 
@@ -21,9 +22,18 @@ pub const MUL: u32 = 2;
 
 pub const GE: u32 = 3;
 
+pub const GT: u32 = 4;
+
+pub const LE: u32 = 5;
+
+pub const LT: u32 = 6;
+
 pub const EQ: u32 = 7;
 
 pub const AND: u32 = 8;
+
+// The most summands of a sum, and leaves of a general relation.
+pub const MAX_SUMMANDS: usize = 512;
 
 // The answer numbers of document 01 that a step can get.
 pub const WRONG_NUMBER_OF_PREMISES: u8 = 20;
@@ -166,7 +176,7 @@ pub fn negation_of(nodes: &[u32], v: u32) -> Negation
 // ---- literals as keys: twice the variable's node, and one more where the literal is negated
 // The key of a literal.
 pub fn key_of(variable: u32, negated: bool) -> u32
-    requires { ⌜ variable ≤ 4096 ⌝ }
+    requires { ⌜ variable ≤ maxNodes ⌝ }
     ensures { λ r. ⌜ r ≡ keyOf variable negated ⌝ }
 {
     if negated {
@@ -192,7 +202,7 @@ pub fn negated_of(key: u32) -> bool
 
 // The key of the opposite literal.
 pub fn opposite(key: u32) -> u32
-    requires { ⌜ variableOf key ≤ 4096 ⌝ }
+    requires { ⌜ variableOf key ≤ maxNodes ⌝ }
     ensures { λ r. ⌜ r ≡ keyOf (variableOf key) (not (negatedOf key)) ⌝ }
 {
     key_of(variable_of(key), !negated_of(key))

@@ -8,7 +8,11 @@ use matching::CONSTANTS_DIFFER;
 use matching::EQ;
 use matching::EXPECTED_ANY_INTEGER;
 use matching::GE;
+use matching::GT;
+use matching::LE;
 use matching::LISTS_DIFFER;
+use matching::LT;
+use matching::MAX_SUMMANDS;
 use matching::MUL;
 use matching::NO_SUPPORTED_RELATION;
 use matching::SUB;
@@ -33,16 +37,6 @@ ghost use Rattle.normalize.specs.Flattening.{CtvIs, leafAt, turn, maxPro
 ghost use Rattle.normalize.specs.Halves.{StepReady, OnePushed, StepIs, PushReady, PushedIs, CollectReady, CollectIs, NegIs, AgreeIs, AllAgree, NamesIs, SidesIs, HalfReady, HalfIs};
 ghost use Rattle.normalize.specs.Lists.{Room, Nodes, Held};
 ghost use Rattle.normalize.specs.Rule.{RelationIs, maxConstant, General, EliminatedIs, BothIs, TwoIs, OneIs, RelatedIs, SidesReady, BySides, NormalizedIs, markedAnswer};
-
-// The operators of the general relation that no other crate names.
-const GT: u32 = 4;
-
-const LE: u32 = 5;
-
-const LT: u32 = 6;
-
-// Summands of a sum, leaves of a relation: one more is too many.
-const MOST: usize = 512;
 
 // A summand: an entry by its literal's key and its coefficient, or the constant of a product of two numerals.
 pub enum Ctv {
@@ -79,7 +73,11 @@ pub fn term_to_ctv(nodes: &[u32], t: u32) -> Ctv
 fn one_more(n: usize) -> usize
     ensures { λ r. ⌜ r ≡ capped (n + 1) ⌝ }
 {
-    if n < MOST { n + 1 } else { MOST + 1 }
+    if n < MAX_SUMMANDS {
+        n + 1
+    } else {
+        MAX_SUMMANDS + 1
+    }
 }
 
 // n and the leaves of node i.
@@ -485,7 +483,7 @@ pub fn half_check(
 {
     let one = [s; 1];
     let ts = matching::split_summation(nodes, &one, s);
-    if ts.len() > MOST {
+    if ts.len() > MAX_SUMMANDS {
         return Answer::Refused(TOO_MANY_SUMMANDS);
     }
     let r = collect_addition_list(nodes, ts, others, otherkeys);
@@ -732,7 +730,7 @@ fn sides_check(
     requires { ⌜ SidesReady (now nodes) op lhs rhs form (now coeffs) (now keys) (now others) (now otherkeys) ⌝ }
     ensures { λ r. ⌜ BySides (now (nodes .entry)) op lhs rhs form r ⌝ }
 {
-    if count_leaves(nodes, rhs, count_leaves(nodes, lhs, 0)) > MOST {
+    if count_leaves(nodes, rhs, count_leaves(nodes, lhs, 0)) > MAX_SUMMANDS {
         return Answer::Refused(TOO_MANY_SUMMANDS);
     }
     // Split general args into list of added terms

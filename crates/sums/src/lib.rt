@@ -4,6 +4,7 @@ use matching::Constant;
 use matching::EXPECTED_ANY_INTEGER;
 use matching::GE;
 use matching::LONE_CONSTANT;
+use matching::MAX_SUMMANDS;
 use matching::MUL;
 use matching::NEITHER_PLAIN_NOR_NEGATED;
 use matching::Pair;
@@ -22,9 +23,6 @@ ghost use Rattle.nodes.specs.Nodes.{decode, Node};
 ghost use Rattle.matching.specs.Matched.{variableOf};
 ghost use Rattle.sums.specs.Lists.{Room, Fine, Listed, Keyed, Bounded, Variables, noSlot, slotAt, maxEntries, maxTotal, maxAdded, maxCoefficient};
 ghost use Rattle.sums.specs.Found.{SameIs, PlaceIs, FindIs, Put1, Appended, PutIs, SummandIs, Nodes, LoneIs, ReadIs, InequalityIs, KeptIs, SubsetIs, SameKeysIs, NamesAre, AddIs, CancelIs, ReduceIs};
-
-// The most summands that a sum may have.
-pub const MAX_SUMMANDS: usize = 512;
 
 // The entries that a lent sum has room for, and its slots; the last is for keys over no name.
 pub const MAX_ENTRIES: usize = 1024;
