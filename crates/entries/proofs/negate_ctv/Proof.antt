@@ -45,7 +45,9 @@ use Rattle.entries.proofs.Entry as T′
 use Rattle.entries.proofs.Entry.Laws as L′
 use Rattle.integer.proofs.negate as negate
 use Rattle.integer.proofs.negate.Symbol as negate-def
+use Rattle.integer.proofs.negate.Symbol.{name as #integer·negate}
 use Rattle.integer.proofs.negate.Met as negate-thm
+use Rattle.entries.proofs.negate_ctv.Key.{name as #entries·negate-ctv}
 use Rattle.entries.proofs.negate_ctv as f
 use Rattle.entries.proofs.negate_ctv.Statement as stated
 use Rattle.entries.proofs.negate_ctv.Code as code

@@ -53,7 +53,9 @@ use Rattle.entries.proofs.While.{tests}
 use Rattle.entries.proofs.Entry as T′
 use Rattle.entries.proofs.negate_ctv as ctv
 use Rattle.entries.proofs.negate_ctv.Symbol as ctv-def
+use Rattle.entries.proofs.negate_ctv.Symbol.{name as #entries·negate-ctv}
 use Rattle.entries.proofs.negate_ctv.Met as ctv-thm
+use Rattle.entries.proofs.negate_sum.Key.{name as #entries·negate-sum}
 use Rattle.entries.proofs.negate_sum as f
 use Rattle.entries.proofs.negate_sum.Statement as stated
 use Rattle.entries.proofs.negate_sum.Code as code
