@@ -28,7 +28,7 @@ const MAX_DEPTH: usize = 64;
 
 pub const MAX_NODES: usize = 4096;
 
-const MAX_COMMANDS: usize = 512;
+pub const MAX_COMMANDS: usize = 512;
 
 // What a text is refused by.
 const GRAMMAR: u8 = 6;

@@ -16,7 +16,7 @@ use Rattle.lexer.specs.declared.Token.the-variants.{End, Mark, Op, Num, 
 use Rattle.lexer.specs.declared.Token.{Token}
 use Rattle.lexer.proofs.Runs.{span-go, in-within}
 
-slice-from : (p k : ℕ) (s : List ℕ) → slice p (p + k) s ≡ take k (drop p s)
+pub slice-from : (p k : ℕ) (s : List ℕ) → slice p (p + k) s ≡ take k (drop p s)
 slice-from zero k s = let e : 0 + k ≡ k = omega arith in ap (λ (n : ℕ). take n s) e
 slice-from (suc p) k [] =
     let e : suc p + k ≡ suc (p + k) = omega arith in

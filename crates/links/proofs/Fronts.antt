@@ -13,10 +13,10 @@ use Rattle.reader.specs.Commands.{wordAt, clauseWord, partAt}
 use Rattle.matching.proofs.Checks.{bind-of, bind-bad, ensure-yes, ensure-no}
 use Rattle.links.specs.Steps.{AllNodes, AllUnder, Step, clauses, withOne, OneAt, withBoth, BothAt}
 
--- ---- a clause
-pub clause-part : (t w : List ℕ) (k a b : ℕ) → a ≡ wordAt w k clauseWord → b ≡ wordAt w k (clauseWord + 1) → take (childBase + a + b - (childBase + a)) (drop (childBase + a) t) ≡ partAt t w k clauseWord
+-- ---- a part of a command
+pub part-is : (t w : List ℕ) (k j a b : ℕ) → a ≡ wordAt w k j → b ≡ wordAt w k (j + 1) → take (childBase + a + b - (childBase + a)) (drop (childBase + a) t) ≡ partAt t w k j
 unfolding partAt childrenAt
-clause-part t w k a b e f = let z : childBase + a + b - (childBase + a) ≡ b = omega arith in rw (z, e, f)
+part-is t w k j a b e f = let z : childBase + a + b - (childBase + a) ≡ b = omega arith in rw (z, e, f)
 
 -- ---- counts
 pub one-of : {A : Type 0} (n : ℕ) (f : ℕ → A) (l : List ℕ) → length l ≡ 1 → one n (map f l) ≡ ok (f (getD l 0 0))

@@ -30,10 +30,14 @@ AllNodes t l = (i : ℕ) → i < length l → Node t (getD l i 0)
 abbrev pub AllUnder : ℕ → List ℕ → Type 0
 AllUnder m l = (i : ℕ) → i < length l → getD l i 0 < m
 
--- the words of command k stand in w, its clause is a part of the table t, and each of its terms is a node
+-- the words j and j + 1 of command k stand in w, and its part that they name is a part of the table t
+pub record Part (t w : List ℕ) (k j : ℕ) : Type 0 where
+  pub words : idWords + (7 * k + (j + 1)) < length w
+  pub inside : childBase + (wordAt w k j + wordAt w k (j + 1)) ≤ length t
+
+-- the clause of command k is such a part, and each of its terms is a node
 pub record Clause (t w : List ℕ) (k : ℕ) : Type 0 where
-  pub words : idWords + (7 * k + 2) < length w
-  pub inside : childBase + (wordAt w k clauseWord + wordAt w k (clauseWord + 1)) ≤ length t
+  pub part : Part t w k clauseWord
   pub terms : AllNodes t (partAt t w k clauseWord)
 
 -- the premises ps are commands with clauses, and the arguments xs are nodes
@@ -65,9 +69,9 @@ pub record OneAt (t w ps xs : List ℕ) (a s : ℕ) : Type 0 where
   pub before : (m : ℕ) (cs : List ℕ) → In m t w ps xs cs → (a < m) × (s < m)
   pub is : (x : List ℕ) (rest : Term → Term → Res Bool) → withOne rest (clauses (decode x t) t w ps) (map (decode x t) xs) ≡ rest (decode x t a) (decode x t s)
 
-abbrev pub TwoIs : List ℕ → List ℕ → List ℕ → List ℕ → One → Type 0
-TwoIs t w ps xs (ones.Of a s) = OneAt t w ps xs a s
-TwoIs t w ps xs (ones.Refused number) = (x : List ℕ) (rest : Term → Term → Res Bool) → withOne rest (clauses (decode x t) t w ps) (map (decode x t) xs) ≡ bad number
+abbrev pub OneIs : List ℕ → List ℕ → List ℕ → List ℕ → One → Type 0
+OneIs t w ps xs (ones.Of a s) = OneAt t w ps xs a s
+OneIs t w ps xs (ones.Refused number) = (x : List ℕ) (rest : Term → Term → Res Bool) → withOne rest (clauses (decode x t) t w ps) (map (decode x t) xs) ≡ bad number
 
 -- ---- two premises, no argument and a conclusion
 unfoldable pub withBoth : (Term → Term → Term → Res Bool) → List (List Term) → List Term → List Term → Res Bool
@@ -81,9 +85,9 @@ pub record BothAt (t w ps xs cs : List ℕ) (l r c : ℕ) : Type 0 where
   pub is : (x : List ℕ) (rest : Term → Term → Term → Res Bool)
       → withBoth rest (clauses (decode x t) t w ps) (map (decode x t) xs) (map (decode x t) cs) ≡ rest (decode x t l) (decode x t r) (decode x t c)
 
-abbrev pub ThreeIs : List ℕ → List ℕ → List ℕ → List ℕ → List ℕ → Both → Type 0
-ThreeIs t w ps xs cs (boths.Of l r c) = BothAt t w ps xs cs l r c
-ThreeIs t w ps xs cs (boths.Refused number) = (x : List ℕ) (rest : Term → Term → Term → Res Bool)
+abbrev pub BothIs : List ℕ → List ℕ → List ℕ → List ℕ → List ℕ → Both → Type 0
+BothIs t w ps xs cs (boths.Of l r c) = BothAt t w ps xs cs l r c
+BothIs t w ps xs cs (boths.Refused number) = (x : List ℕ) (rest : Term → Term → Term → Res Bool)
     → withBoth rest (clauses (decode x t) t w ps) (map (decode x t) xs) (map (decode x t) cs) ≡ bad number
 
 -- ---- cp_literal

@@ -27,12 +27,18 @@ ghost use Rattle.calculus.specs.Matching.{isName};
 ghost use Rattle.calculus.specs.Rules.{cpLiteral, litPlain};
 ghost use Rattle.nodes.specs.Nodes.{decode, Node};
 ghost use Rattle.reader.specs.Commands.{idWords, wordAt, partAt, clauseWord};
-ghost use Rattle.links.specs.Steps.{Clause, AllNodes, Step, RuleIs, TwoIs, ThreeIs, SideIs, SameAs, LiteralIs, TransferIs, PartIs};
+ghost use Rattle.links.specs.Steps.{Part, Clause, AllNodes, Step, RuleIs, OneIs, BothIs, SideIs, SameAs, LiteralIs, TransferIs, PartIs};
 
-// The first of the two words that say where a command's clause stands.
-const CLAUSE_WORD: usize = 1;
+// ---- which word of a command is which: the kind, and the first of the two of each part
+pub const KIND_WORD: usize = 0;
 
-// ---- a step's clauses
+pub const CLAUSE_WORD: usize = 1;
+
+pub const PREMISES_WORD: usize = 3;
+
+pub const ARGUMENTS_WORD: usize = 5;
+
+// ---- the parts of a command
 // Word j of the seven of command k.
 pub fn word_of(commands: &[u32], k: usize, j: usize) -> usize
     requires { ⌜ idWords + (7 * k + j) < length (now commands) ⌝ }
@@ -41,15 +47,22 @@ pub fn word_of(commands: &[u32], k: usize, j: usize) -> usize
     nodes::wide(commands[ID_WORDS + (7 * k + j)])
 }
 
-// The clause of command k: a part of the table.
+// The part of command k whose words are j and j + 1: a part of the table.
+pub fn part_of<'a>(nodes: &'a [u32], commands: &[u32], k: usize, j: usize) -> &'a [u32]
+    requires { ⌜ Part (now nodes) (now commands) k j ⌝ }
+    ensures { λ r. ⌜ now r ≡ partAt (now (nodes .entry)) (now (commands .entry)) k j ⌝ }
+{
+    let from = CHILD_BASE + word_of(commands, k, j);
+    let to = from + word_of(commands, k, j + 1);
+    &nodes[from..to]
+}
+
+// The clause of command k, a number as the premises have it.
 pub fn clause_of<'a>(nodes: &'a [u32], commands: &[u32], k: u32) -> &'a [u32]
     requires { ⌜ Clause (now nodes) (now commands) k ⌝ }
     ensures { λ r. ⌜ now r ≡ partAt (now (nodes .entry)) (now (commands .entry)) k clauseWord ⌝ }
 {
-    let at = nodes::wide(k);
-    let from = CHILD_BASE + word_of(commands, at, CLAUSE_WORD);
-    let to = from + word_of(commands, at, CLAUSE_WORD + 1);
-    &nodes[from..to]
+    part_of(nodes, commands, nodes::wide(k), CLAUSE_WORD)
 }
 
 // The one term of the one premise's clause and the one argument, or the number of what is missing.
@@ -61,7 +74,7 @@ pub enum One {
 // Exactly one premise with a clause of one term, and exactly one argument.
 pub fn one_premise(nodes: &[u32], commands: &[u32], premises: &[u32], args: &[u32]) -> One
     requires { ⌜ Step (now nodes) (now commands) (now premises) (now args) ⌝ }
-    ensures { λ r. ⌜ TwoIs (now (nodes .entry)) (now (commands .entry)) (now (premises .entry)) (now (args .entry)) r ⌝ }
+    ensures { λ r. ⌜ OneIs (now (nodes .entry)) (now (commands .entry)) (now (premises .entry)) (now (args .entry)) r ⌝ }
 {
     // Check there is exactly one premise
     if premises.len() != 1 {
@@ -95,7 +108,7 @@ pub fn two_premises(
 ) -> Both
     requires { ⌜ Step (now nodes) (now commands) (now premises) (now args) ⌝ }
     requires { ⌜ AllNodes (now nodes) (now conclusion) ⌝ }
-    ensures { λ r. ⌜ ThreeIs (now (nodes .entry)) (now (commands .entry)) (now (premises .entry)) (now (args .entry)) (now (conclusion .entry)) r ⌝ }
+    ensures { λ r. ⌜ BothIs (now (nodes .entry)) (now (commands .entry)) (now (premises .entry)) (now (args .entry)) (now (conclusion .entry)) r ⌝ }
 {
     // Check there is exactly two premises
     if premises.len() != 2 {

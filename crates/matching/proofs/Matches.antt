@@ -2,7 +2,7 @@
 use mathlib.Core.Path.{_≡_, refl, sym, ap, _∙_, subst}
 use mathlib.Core.Bool.{Bool, true, false}
 use mathlib.Core.List.{List, [], _∷_, map}
-use Prim.Native.Nat.{ℕ, zero, suc, _+_, _*_, _%_, _^_, _≤_, _<_}
+use Prim.Native.Nat.{ℕ, _+_, _*_, _%_, _^_, _≤_, _<_}
 use native.Mathlib.Decide.{decLt}
 use native.Mathlib.Omega.{arith}
 use borrow.Author.Tests.{eq-eqb, ne-eqb, le-leb, lt-leb}
@@ -23,6 +23,7 @@ use Rattle.calculus.specs.Words.{ok, bad}
 use Rattle.calculus.proofs.TermLaws.{sameInteger-refl}
 use Rattle.calculus.proofs.Booleans.{is-true}
 use Rattle.nodes.specs.Nodes.{plusKind, minusKind, nameKind, kindAt, firstAt, secondAt, childrenAt, decode, Below, Node}
+use Rattle.nodes.proofs.Comparing.{opNum-opOf}
 use Rattle.nodes.proofs.Tables.{decode-application, decode-plus, decode-minus, decode-name, below-at, below-more}
 use Rattle.matching.specs.Matched.{Inner, ConstantAt, PairAt, NegationAt, keyOf, variableOf, negatedOf, litAt, LiteralIs, SplitIs}
 use Rattle.matching.proofs.Checks.{bind-of, bind-bad, ensure-yes, ensure-no}
@@ -113,18 +114,6 @@ module _ {t : List ℕ} {i : ℕ} (N : Node t i) where
 -- ---- arguments
 op-same : (k : ℕ) → sameOp (opOf k) (opOf k) ≡ true
 op-same k = eq-eqb (opNum (opOf k)) (opNum (opOf k)) refl
-
-opNum-opOf : (k : ℕ) → k < plusKind → opNum (opOf k) ≡ k
-unfolding opOf
-opNum-opOf zero h = refl
-opNum-opOf (suc zero) h = refl
-opNum-opOf (suc (suc zero)) h = refl
-opNum-opOf (suc (suc (suc zero))) h = refl
-opNum-opOf (suc (suc (suc (suc zero)))) h = refl
-opNum-opOf (suc (suc (suc (suc (suc zero))))) h = refl
-opNum-opOf (suc (suc (suc (suc (suc (suc zero)))))) h = refl
-opNum-opOf (suc (suc (suc (suc (suc (suc (suc zero))))))) h = refl
-opNum-opOf (suc (suc (suc (suc (suc (suc (suc (suc k)))))))) h = omega arith
 
 op-other : (o k : ℕ) → o < plusKind → k < plusKind → (k ≡ o → ⊥) → sameOp (opOf o) (opOf k) ≡ false
 op-other o k h l f = ne-eqb (opNum (opOf o)) (opNum (opOf k)) (λ e. f (sym (opNum-opOf k l) ∙ sym e ∙ opNum-opOf o h))

@@ -4,13 +4,14 @@ use nodes::MINUS_KIND;
 use nodes::NAME_KIND;
 use nodes::PLUS_KIND;
 ghost use mathlib.Core.Path.{_≡_};
-ghost use mathlib.Core.Bool.{not};
+ghost use mathlib.Core.Bool.{not, _&&_};
 ghost use mathlib.Core.List.{List, [], _∷_};
 ghost use Prim.Native.Nat.{ℕ, _+_, _*_, _/_, _≤_, _<_};
 ghost use lib.ListN.{length};
 ghost use Rattle.calculus.specs.Matching.{isName};
 ghost use Rattle.calculus.specs.Writing.{maxNodes};
 ghost use Rattle.nodes.specs.Nodes.{plusKind, firstAt, decode, Node};
+ghost use Rattle.matching.specs.Entries.{Variables, NamesAre};
 ghost use Rattle.matching.specs.Matched.{ConstantIs, PairIs, NegationIs, SplitIs, keyOf, variableOf, negatedOf, LiteralIs};
 
 // The operators that the rules match.
@@ -84,6 +85,13 @@ pub const NO_LINK: u8 = 41;
 pub enum Answer {
     Accepted(bool),
     Refused(u8),
+}
+
+// Whether both hold.
+pub fn both(a: bool, b: bool) -> bool
+    ensures { λ r. ⌜ r ≡ a && b ⌝ }
+{
+    if a { b } else { false }
 }
 
 // The first word of node i behind its kind.
@@ -217,6 +225,21 @@ pub fn literal_of(nodes: &[u32], v: u32) -> u32
         Negation::Of(w) => key_of(w, true),
         Negation::Not => key_of(v, false),
     }
+}
+
+// Whether each variable of n keys is a name.
+pub fn all_names(nodes: &[u32], keys: &[u32], n: usize) -> bool
+    requires { ⌜ Variables (now nodes) (now keys) n × (n ≤ length (now keys)) ⌝ }
+    ensures { λ r. ⌜ NamesAre (now (nodes .entry)) (now (keys .entry)) n r ⌝ }
+{
+    let mut i: usize = 0;
+    while i < n {
+        if !is_name(nodes, variable_of(keys[i])) {
+            return false;
+        }
+        i += 1;
+    }
+    true
 }
 
 // ---- sums

@@ -16,8 +16,7 @@ use Rattle.calculus.specs.Words.{maxNumeral}
 use Rattle.nodes.specs.Nodes.{plusKind, kindAt, decode}
 use Rattle.matching.specs.Matched.{variableOf, litAt}
 use Rattle.normalize.specs.Flattening.{maxProduct, turn, turnAll, turned, flatOf, Good, Grown, flatAt, flatAll, leafAt, endOf, LeafReady, TreeReady, ListReady, Added, Marked}
-use Rattle.matching.specs.Entries.{entries}
-use Rattle.normalize.specs.Lists.{Before}
+use Rattle.matching.specs.Entries.{entries, Under}
 use Rattle.normalize.specs.declared.Acc.{Acc}
 use Rattle.normalize.proofs.Runs.{entries-more, nodes-more, before-more, coefficients-more}
 use Rattle.normalize.proofs.Signs.{flat-eq, turn-zero, turn-within, plus-zero, or-false, join-assoc, join-none, turned-join, turned-minus, markOf, join-mark}
@@ -184,7 +183,7 @@ pub record Summing (t : List ℕ) (l : List ℕ) (b : Bool) (cs₀ : List ℤ) (
   pub upto : k ≤ length l
   pub is : (s : List ℕ) → join (flatOf (decode s t) cs ks a) (turned b (flatAll t (drop k l) s)) ≡ join (flatOf (decode s t) cs₀ ks₀ a₀) (turned b (flatAll t l s))
   pub good : Good t cs ks a
-  pub before : (top : ℕ) → endOf l ≤ top → Before top ks₀ (a₀ .count) → Before top ks (a .count)
+  pub before : (top : ℕ) → endOf l ≤ top → Under top ks₀ (a₀ .count) → Under top ks (a .count)
   pub coeffs : length cs ≡ length cs₀
   pub keys : length ks ≡ length ks₀
 

@@ -19,8 +19,8 @@ use Rattle.matching.specs.Matched.{Text, term, ConstantAt, SplitIs}
 use Rattle.matching.specs.Matched.{answerOf}
 use Rattle.normalize.specs.Flattening.{turnAll}
 use Rattle.normalize.specs.Halves.{PushedIs, resultOf, CollectReady, CollectIs, sidesCheck, pushedCheck, SidesIs, HalfReady, HalfIs}
-use Rattle.matching.specs.Entries.{entries}
-use Rattle.normalize.specs.Lists.{Room, Before}
+use Rattle.matching.specs.Entries.{entries, Under}
+use Rattle.normalize.specs.Lists.{Room}
 use Rattle.matching.specs.declared.Answer.{Answer}
 use Rattle.matching.specs.declared.Answer.the-variants as checks
 use Rattle.normalize.specs.declared.Collected.{Collected}
@@ -107,11 +107,11 @@ half-pushed : (G : List Entry) (k : ℤ) (s z : Term) → pushedCheck (pushEntri
 unfolding halfCheck pushedCheck sidesCheck
 half-pushed G k s z = rw (pushed-names G)
 
-pub before-pushed : {b : Bool} {cs cs' : List ℤ} {ks ks' : List ℕ} {n top : ℕ} {m : ℤ} → PushedIs b cs ks n cs' ks' m → Before top ks n → Before top ks' n
+pub before-pushed : {b : Bool} {cs cs' : List ℤ} {ks ks' : List ℕ} {n top : ℕ} {m : ℤ} → PushedIs b cs ks n cs' ks' m → Under top ks n → Under top ks' n
 before-pushed p B j l = rw (p .same j l) (B j l)
 
 pub half-turned : {t : List ℕ} {b : Bool} {cs cs' : List ℤ} {ks ks' : List ℕ} {n s z : ℕ} {m v : ℤ} {r : Answer} (k : ℤ) → PushedIs b cs ks n cs' ks' m → v ≡ k +ℤ m → HalfIs t s z cs' ks' n v r
-    → (x : Text t) → s < x .n → Before (x .n) ks n → answerOf r ≡ halfCheck (turnAll b (entries (term x) cs ks n)) k (term x s) (term x z)
+    → (x : Text t) → s < x .n → Under (x .n) ks n → answerOf r ≡ halfCheck (turnAll b (entries (term x) cs ks n)) k (term x s) (term x z)
 half-turned {b = b} {cs = cs} {ks = ks} {n = n} {s = s} {z = z} k p e h x l B =
     h .is x l (before-pushed p B)
     ∙ ap₂ (λ (P : List Entry) (y : ℤ). pushedCheck P y (term x s) (term x z)) (p .is (term x)) (e ∙ ap (λ (y : ℤ). k +ℤ y) (p .total (term x)))

@@ -199,7 +199,7 @@ unfolding commandAs idOf
 id-of d zero c ds xs = refl
 id-of d (suc r) c ds xs = refl
 
-command-id : (s t w : List ℕ) (k : ℕ) → idOf (commandOf s t w k) ≡ stringAt s w k
+pub command-id : (s t w : List ℕ) (k : ℕ) → idOf (commandOf s t w k) ≡ stringAt s w k
 unfolding commandOf
 command-id s t w k = id-of (stringAt s w k) (wordAt w k kindWord) _ _ _
 

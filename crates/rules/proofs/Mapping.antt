@@ -1,5 +1,5 @@
 -- The ways through multiplication, division and saturation, and the loops that compare coefficients.
-use mathlib.Core.Path.{_≡_, refl, sym, ap, ap₂, _∙_, subst}
+use mathlib.Core.Path.{_≡_, refl, sym, ap, _∙_, subst}
 use mathlib.Core.Bool.{Bool, true, false, not, cond, _&&_, _||_}
 use mathlib.Core.List.{List, [], map}
 use Prim.Native.Nat.{ℕ, zero, suc, _+_, _-_, _≤_, _<_}
@@ -22,8 +22,8 @@ use Rattle.nodes.specs.Nodes.{decode}
 use Rattle.reader.specs.Commands.{clauseWord, partAt}
 use Rattle.matching.specs.Matched.{Text, term, ConstantAt}
 use Rattle.matching.proofs.Checks.{bind-of, bind-bad, ensure-yes, ensure-no, or-of, or-bad}
-use Rattle.matching.specs.Entries.{run, entryAt, entries}
-use Rattle.sums.specs.Lists.{Under, Listed, Keyed, resOf}
+use Rattle.matching.specs.Entries.{run, entryAt, entries, Under}
+use Rattle.sums.specs.Lists.{Listed, Keyed, resOf}
 use Rattle.sums.specs.Found.{FindIs}
 use Rattle.sums.proofs.Keys.{found-has, lost-has, found-get}
 use Rattle.matching.proofs.Runs.{all-start, all-more, all-stop, all-end}
@@ -50,9 +50,6 @@ from-zero (negsuc n) e = absurd (no-yes e)
 pub times-is : (m a r : ℤ) → r ≡ m *ℤ a → r ≡ timesZ m a
 unfolding timesZ
 times-is m a r e = e
-
-pub and-of : (a b p q : Bool) → p ≡ a → q ≡ b → (r : Bool) → r ≡ p && q → r ≡ a && b
-and-of a b p q e f r g = g ∙ ap₂ _&&_ e f
 
 -- ---- one entry of the premise against the conclusion
 module _ {t : List ℕ} (f : ℤ → ℤ) (cs : List ℤ) (ks : List ℕ) (i : ℕ) (ds : List ℤ) (ls : List ℕ) (m j : ℕ) (F : FindIs t ls m (getD ks i 0) j) where

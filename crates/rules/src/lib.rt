@@ -17,7 +17,6 @@ use matching::WRONG_LENGTH_OF_CLAUSE;
 use matching::WRONG_NUMBER_OF_ARGS;
 use matching::WRONG_NUMBER_OF_PREMISES;
 ghost use mathlib.Core.Path.{_≡_};
-ghost use mathlib.Core.Bool.{_&&_};
 ghost use Prim.Native.Nat.{_+_, _*_, _≤_, _<_};
 ghost use lib.IntN.{pos};
 ghost use lib.ListN.{length, getD};
@@ -40,13 +39,6 @@ fn same_integer(a: i64, b: i64) -> bool
     ensures { λ r. ⌜ r ≡ sameInteger a b ⌝ }
 {
     integer::equal(a, b)
-}
-
-// Whether both hold.
-fn and(a: bool, b: bool) -> bool
-    ensures { λ r. ⌜ r ≡ a && b ⌝ }
-{
-    if a { b } else { false }
 }
 
 // ---- inequalities
@@ -298,7 +290,7 @@ fn sums_agree(
     if !coefficients_are(nodes, reduced, keys, slots, n, coeffs2, keys2, m) {
         return Answer::Refused(COEFFICIENT_DIFFERS);
     }
-    Answer::Accepted(and(
+    Answer::Accepted(matching::both(
         names,
         zeros_face_zeros(nodes, reduced, keys, slots, n, coeffs2, keys2, m),
     ))
@@ -328,11 +320,11 @@ fn added(
     let n = three.count;
     let m = three.count2;
     let k = three.count3;
-    let premises = and(
-        sums::all_names(nodes, keys, n),
-        sums::all_names(nodes, keys2, m),
+    let premises = matching::both(
+        matching::all_names(nodes, keys, n),
+        matching::all_names(nodes, keys2, m),
     );
-    let names = and(premises, sums::all_names(nodes, keys3, k));
+    let names = matching::both(premises, matching::all_names(nodes, keys3, k));
 
     // Add both sides regardless of negation
     let both = sums::add_pbsums(nodes, coeffs, keys, slots, n, coeffs2, keys2, m);
@@ -527,9 +519,9 @@ fn by_check(
     if !coefficients_agree(nodes, by, coeffs, keys, n, coeffs2, keys2, slots2, m) {
         return Answer::Refused(COEFFICIENT_DIFFERS);
     }
-    Answer::Accepted(and(
-        sums::all_names(nodes, keys, n),
-        sums::all_names(nodes, keys2, m),
+    Answer::Accepted(matching::both(
+        matching::all_names(nodes, keys, n),
+        matching::all_names(nodes, keys2, m),
     ))
 }
 

@@ -1,55 +1,49 @@
 -- What a rule is given of a step follows from what the reader publishes of its command and of those above it.
 use mathlib.Core.Path.{_≡_, sym, subst}
 use mathlib.Core.List.{List}
-use Prim.Native.Nat.{ℕ, _+_, _-_, _*_, _≤_, _<_}
+use Prim.Native.Nat.{ℕ, _+_, _-_, _≤_, _<_}
 use native.Mathlib.Omega.{arith}
 use lib.IntN.{ℤ}
-use lib.ListN.{length, getD, take, drop}
-use Rattle.nodes.specs.Nodes.{childBase, childrenAt, Below}
+use lib.ListN.{length, getD}
+use Rattle.calculus.specs.Writing.{maxCommands}
+use Rattle.nodes.specs.Nodes.{Below, Table}
 use Rattle.nodes.proofs.Tables.{below-at}
 use Rattle.matching.specs.declared.Answer.{Answer}
 use Rattle.normalize.specs.Lists.{Room as Lines}
-use Rattle.reader.specs.Commands.{idWords, wordAt, kindWord, clauseWord, premisesWord, argumentsWord, partAt}
+use Rattle.reader.specs.Commands.{allWords, wordAt, kindWord, clauseWord, premisesWord, argumentsWord, partAt}
 use Rattle.sums.specs.Lists.{Room}
-use Rattle.links.specs.Steps.{AllNodes, AllUnder, Clause, Step, In}
-use Rattle.steps.specs.Answers.{Part, Given, NumberIs, StepIs}
+use Rattle.links.specs.Steps.{AllNodes, AllUnder, Part, Clause, Step, In}
+use Rattle.steps.specs.Answers.{Given, NumberIs, StepIs}
 
--- ---- a part of a command
-pub part-is : (t w : List ℕ) (k j a b : ℕ) → a ≡ wordAt w k j → b ≡ wordAt w k (j + 1) → take (childBase + a + b - (childBase + a)) (drop (childBase + a) t) ≡ partAt t w k j
-unfolding partAt childrenAt
-part-is t w k j a b e f = let z : childBase + a + b - (childBase + a) ≡ b = omega arith in rw (z, e, f)
+-- ---- what is published of a table
+module _ {t : List ℕ} {n c : ℕ} (table : Table t n c) where
+  -- child words in use are a part of it
+  pub part-used : {w : List ℕ} (i j : ℕ) → allWords ≤ length w → i < maxCommands → j ≤ argumentsWord → wordAt w i j + wordAt w i (j + 1) ≤ c → Part t w i j
+  part-used i j r f h m = record { words = omega arith; inside = omega (arith, table .room, table .few, table .used) }
+
+  -- what is below the nodes in use is a node
+  pub nodes-used : (l : List ℕ) → Below n l → AllNodes t l
+  nodes-used l b i h = record { n = n; c = c; table = table; below = below-at l i b h }
 
 -- ---- what is given of a step
 module _ {t w : List ℕ} {k : ℕ} (g : Given t w k) where
-  part-in : (j : ℕ) → j ≤ argumentsWord → wordAt w k j + wordAt w k (j + 1) ≤ g .c → Part t w k j
-  part-in j h i = record {
-    few = g .few;
-    named = h;
-    words = omega (arith, g .room, g .few);
-    inside = omega (arith, g .table .room, g .table .few, g .table .used);
-  }
+  part-in : (i j : ℕ) → i ≤ k → j ≤ argumentsWord → wordAt w i j + wordAt w i (j + 1) ≤ g .c → Part t w i j
+  part-in i j l h m = part-used (g .table) i j (g .room) (omega (arith, g .few)) h m
 
   pub clause-in : Part t w k clauseWord
-  clause-in = part-in 1 (omega arith) (g .each k (omega arith) .clause)
+  clause-in = part-in k clauseWord (omega arith) (omega arith) (g .each k (omega arith) .clause)
 
   pub premises-in : Part t w k premisesWord
-  premises-in = part-in 3 (omega arith) (g .each k (omega arith) .premises)
+  premises-in = part-in k premisesWord (omega arith) (omega arith) (g .each k (omega arith) .premises)
 
   pub arguments-in : Part t w k argumentsWord
-  arguments-in = part-in 5 (omega arith) (g .each k (omega arith) .arguments)
-
-  pub kind-in : idWords + (7 * k + kindWord) < length w
-  kind-in = omega (arith, g .room, g .few)
-
-  all-nodes : (l : List ℕ) → Below (g .n) l → AllNodes t l
-  all-nodes l b i h = record { n = g .n; c = g .c; table = g .table; below = below-at l i b h }
+  arguments-in = part-in k argumentsWord (omega arith) (omega arith) (g .each k (omega arith) .arguments)
 
   -- the clause of a command above
   clause-of : (j : ℕ) → j ≤ k → Clause t w j
   clause-of j h = record {
-    words = omega (arith, g .room, g .few);
-    inside = omega (arith, g .table .room, g .table .few, g .table .used, g .each j h .clause);
-    terms = all-nodes (partAt t w j clauseWord) (g .each j h .terms);
+    part = part-in j clauseWord h (omega arith) (g .each j h .clause);
+    terms = nodes-used (g .table) (partAt t w j clauseWord) (g .each j h .terms);
   }
 
   above : (i : ℕ) → i < length (partAt t w k premisesWord) → getD (partAt t w k premisesWord) i 0 ≤ k
@@ -58,7 +52,7 @@ module _ {t w : List ℕ} {k : ℕ} (g : Given t w k) where
   step-given : Step t w (partAt t w k premisesWord) (partAt t w k argumentsWord)
   step-given = record {
     premises = λ i h. clause-of (getD (partAt t w k premisesWord) i 0) (above i h);
-    arguments = all-nodes (partAt t w k argumentsWord) (g .each k (omega arith) .given);
+    arguments = nodes-used (g .table) (partAt t w k argumentsWord) (g .each k (omega arith) .given);
   }
 
   pub step-in : (ps xs : List ℕ) → ps ≡ partAt t w k premisesWord → xs ≡ partAt t w k argumentsWord → Step t w ps xs

@@ -1,21 +1,40 @@
 -- What is given of a step in the reader's tables, and what it is answered (01, section 5).
 use mathlib.Core.List.{List}
-use Prim.Native.Nat.{ℕ, _+_, _-_, _*_, _≤_, _<_}
+use Prim.Native.Nat.{ℕ, _-_, _≤_, _<_}
 use lib.ListN.{length}
 use Rattle.calculus.specs.Marks.{applyRule}
 use Rattle.calculus.specs.Writing.{maxCommands}
 use Rattle.heads.specs.Heads.{ruleNamed}
-use Rattle.nodes.specs.Nodes.{childBase, Table}
+use Rattle.nodes.specs.Nodes.{Table}
 use Rattle.matching.specs.declared.Answer.{Answer}
-use Rattle.reader.specs.Commands.{idWords, allWords, wordAt, kindWord, clauseWord, premisesWord, argumentsWord, partAt, CommandIn}
+use Rattle.reader.specs.Commands.{allWords, wordAt, kindWord, clauseWord, premisesWord, argumentsWord, partAt, CommandIn}
 use Rattle.links.specs.Steps.{RuleIs}
 
--- the words j and j + 1 of command k stand in w, and its part that they name is a part of the table t
-pub record Part (t w : List ℕ) (k j : ℕ) : Type 0 where
-  pub few : k < maxCommands
-  pub named : j ≤ argumentsWord
-  pub words : idWords + (7 * k + (j + 1)) < length w
-  pub inside : childBase + (wordAt w k j + wordAt w k (j + 1)) ≤ length t
+-- ---- the rules' numbers, as the reader gives them
+abbrev pub additionNumber : ℕ
+additionNumber = 0
+
+abbrev pub multiplicationNumber : ℕ
+multiplicationNumber = 1
+
+abbrev pub divisionNumber : ℕ
+divisionNumber = 2
+
+abbrev pub saturationNumber : ℕ
+saturationNumber = 3
+
+abbrev pub literalNumber : ℕ
+literalNumber = 4
+
+abbrev pub normalizeNumber : ℕ
+normalizeNumber = 5
+
+abbrev pub transferNumber : ℕ
+transferNumber = 6
+
+-- the last: every number from here on is the last rule's
+abbrev pub partNumber : ℕ
+partNumber = 7
 
 -- what the reader publishes of command k, a step
 pub record Given (t w : List ℕ) (k : ℕ) : Type 0 where

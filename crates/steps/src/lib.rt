@@ -1,23 +1,17 @@
 // The answer of a step of the reader's tables: its rule over the premises' clauses, the arguments and the conclusion.
+use links::ARGUMENTS_WORD;
+use links::CLAUSE_WORD;
+use links::KIND_WORD;
+use links::PREMISES_WORD;
+use links::part_of;
 use links::word_of;
 use matching::Answer;
-use nodes::CHILD_BASE;
 ghost use mathlib.Core.Path.{_≡_};
 ghost use Prim.Native.Nat.{_≤_, _<_};
 ghost use lib.ListN.{length};
 ghost use Rattle.links.specs.Steps.{AllNodes, Step};
-ghost use Rattle.reader.specs.Commands.{partAt};
-ghost use Rattle.steps.specs.Answers.{Part, Given, NumberIs, StepIs};
+ghost use Rattle.steps.specs.Answers.{multiplicationNumber, literalNumber, normalizeNumber, Given, NumberIs, StepIs};
 ghost use Rattle.sums.specs.Lists.{Room, maxEntries};
-
-// ---- which word of a command is which: the kind, and the first of the two of each part
-pub const KIND_WORD: usize = 0;
-
-const CLAUSE_WORD: usize = 1;
-
-const PREMISES_WORD: usize = 3;
-
-const ARGUMENTS_WORD: usize = 5;
 
 // ---- the rules' numbers, as the reader gives them; that of cp_part is the last, 7
 pub const ADDITION: usize = 0;
@@ -34,16 +28,6 @@ pub const NORMALIZE: usize = 5;
 
 pub const TRANSFER: usize = 6;
 
-// The part of command k whose words are j and j + 1.
-fn part_of<'a>(nodes: &'a [u32], commands: &[u32], k: usize, j: usize) -> &'a [u32]
-    requires { ⌜ Part (now nodes) (now commands) k j ⌝ }
-    ensures { λ r. ⌜ now r ≡ partAt (now (nodes .entry)) (now (commands .entry)) k j ⌝ }
-{
-    let from = CHILD_BASE + word_of(commands, k, j);
-    let to = from + word_of(commands, k, j + 1);
-    &nodes[from..to]
-}
-
 // The answer by a rule that reads no sum.
 fn check_terms(
     nodes: &[u32],
@@ -53,7 +37,7 @@ fn check_terms(
     args: &[u32],
     conclusion: &[u32],
 ) -> Answer
-    requires { ⌜ (4 ≤ rule) × (rule ≡ 5 → ⊥) ⌝ }
+    requires { ⌜ (literalNumber ≤ rule) × (rule ≡ normalizeNumber → ⊥) ⌝ }
     requires { ⌜ Step (now nodes) (now commands) (now premises) (now args) ⌝ }
     requires { ⌜ AllNodes (now nodes) (now conclusion) ⌝ }
     ensures { λ r. ⌜ NumberIs rule (now (nodes .entry)) (now (commands .entry)) (now (premises .entry)) (now (args .entry)) (now (conclusion .entry)) r ⌝ }
@@ -82,7 +66,7 @@ fn check_map(
     keys2: &mut [u32],
     slots2: &mut [u32],
 ) -> Answer
-    requires { ⌜ (1 ≤ rule) × (rule < 4) ⌝ }
+    requires { ⌜ (multiplicationNumber ≤ rule) × (rule < literalNumber) ⌝ }
     requires { ⌜ Step (now nodes) (now commands) (now premises) (now args) ⌝ }
     requires { ⌜ AllNodes (now nodes) (now conclusion) ⌝ }
     requires { ⌜ Room (now coeffs) (now keys) (now slots) ⌝ }

@@ -22,8 +22,8 @@ use Rattle.matching.specs.declared.Constant.{Constant}
 use Rattle.matching.specs.declared.Constant.the-variants as constants
 use Rattle.matching.proofs.Checks.{bind-of, bind-bad, ensure-yes, ensure-no, or-of, or-bad}
 use Rattle.matching.proofs.Matches.{node-before}
-use Rattle.matching.specs.Entries.{run, entries}
-use Rattle.sums.specs.Lists.{Under, Bounded, Fine, maxTotal, maxCoefficient, resOf}
+use Rattle.matching.specs.Entries.{run, entries, Under}
+use Rattle.sums.specs.Lists.{Bounded, Fine, maxTotal, maxCoefficient, resOf}
 use Rattle.sums.specs.Found.{PutIs, SummandAt, RefusedAt, Nodes, LoneIs, ReadIs, InequalityIs}
 
 -- ---- answers by their numbers

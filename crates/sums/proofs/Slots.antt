@@ -17,8 +17,8 @@ use Rattle.calculus.proofs.Booleans.{and-l, and-r, beq-eq, beq-refl, is-true}
 use Rattle.nodes.specs.Nodes.{nameKind, kindAt, Node}
 use Rattle.nodes.proofs.Comparing.{equal-name, equal-other}
 use Rattle.matching.specs.Matched.{Text, term, variableOf, negatedOf, litAt}
-use Rattle.matching.specs.Entries.{run, entryAt, entries}
-use Rattle.sums.specs.Lists.{indexOf, noSlot, slotAt, Under, Fine}
+use Rattle.matching.specs.Entries.{run, entryAt, entries, Under}
+use Rattle.sums.specs.Lists.{indexOf, noSlot, slotAt, Fine}
 use Rattle.sums.specs.Found.{SameIs, PlaceIs, FindIs}
 use Rattle.sums.proofs.Runs.{index-none, index-first, index-start, index-more, index-here, index-end}
 use Rattle.matching.proofs.Matches.{pair-nodes}

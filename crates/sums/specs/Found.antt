@@ -6,13 +6,13 @@ use Prim.Native.Nat.{ℕ, suc, _+_, _*_, _≤_, _<_}
 use lib.IntN.{ℤ, pos}
 use lib.ListN.{length, getD}
 use Rattle.integer.specs.Integers.{Within}
-use Rattle.calculus.specs.Sums.{Entry, entry, put, sameLit, summand, loneConstant, unwrapInequality, allNames, keysIn, sameKeys, addSums, reducedAt, slackAt, reduceSum, maxSummands}
+use Rattle.calculus.specs.Sums.{Entry, entry, put, sameLit, summand, loneConstant, unwrapInequality, keysIn, sameKeys, addSums, reducedAt, slackAt, reduceSum, maxSummands}
 use Rattle.calculus.specs.Terms.{listed}
 use Rattle.calculus.specs.Words.{Res, ok, bad, maxNumeral}
 use Rattle.nodes.specs.Nodes.{decode, Below, Node}
 use Rattle.matching.specs.Matched.{Text, term, Inner, litAt, variableOf}
-use Rattle.matching.specs.Entries.{entryAt, entries}
-use Rattle.sums.specs.Lists.{indexOf, noSlot, slotAt, Under, Bounded, Fine, maxTotal, maxAdded, maxEntries, resOf}
+use Rattle.matching.specs.Entries.{entryAt, entries, Under}
+use Rattle.sums.specs.Lists.{indexOf, noSlot, slotAt, Bounded, Fine, maxTotal, maxAdded, maxEntries, resOf}
 use Rattle.matching.specs.declared.Constant.{Constant}
 use Rattle.matching.specs.declared.Constant.the-variants as constants
 use Rattle.sums.specs.declared.Summand.{Summand}
@@ -103,10 +103,6 @@ SubsetIs t cs ks n ls m r = (x : Text t) (ds : List ℤ) → Under (x .n) ks n �
 
 abbrev pub SameKeysIs : (t : List ℕ) → List ℤ → List ℕ → ℕ → List ℤ → List ℕ → ℕ → Bool → Type 0
 SameKeysIs t cs ks n ds ls m r = (x : Text t) → Under (x .n) ks n → Under (x .n) ls m → r ≡ sameKeys (entries (term x) cs ks n) (entries (term x) ds ls m)
-
--- each variable is a name
-abbrev pub NamesAre : (t ks : List ℕ) → ℕ → Bool → Type 0
-NamesAre t ks n r = (s : List ℕ) (cs : List ℤ) → r ≡ allNames (entries (decode s t) cs ks n)
 
 -- ---- adding and reducing
 pub record AddIs (t : List ℕ) (cs : List ℤ) (ks : List ℕ) (n : ℕ) (bs : List ℤ) (ls : List ℕ) (m : ℕ) (ds : List ℤ) (ks' sl' : List ℕ) (r : ℕ) : Type 0 where

@@ -10,7 +10,8 @@ use Rattle.integer.specs.Integers.{Within}
 use Rattle.calculus.specs.Sums.{Lit, Entry, sameLit, maxSummands}
 use Rattle.calculus.specs.Words.{Res, ok, bad, maxNumeral}
 use Rattle.calculus.specs.Writing.{maxNodes}
-use Rattle.nodes.specs.Nodes.{nameKind, kindAt, Node}
+use Rattle.nodes.specs.Nodes.{nameKind, kindAt}
+use Rattle.matching.specs.Entries.{Variables}
 use Rattle.matching.specs.Matched.{variableOf}
 
 -- how many entries stand before the first of a literal; all of them where it is no key
@@ -37,14 +38,6 @@ pub record Room (cs : List ℤ) (ks sl : List ℕ) : Type 0 where
   pub coefficients : maxEntries ≤ length cs
   pub keys : maxEntries ≤ length ks
   pub slots : noSlot < length sl
-
--- the variables of the first n keys are nodes
-abbrev pub Variables : List ℕ → List ℕ → ℕ → Type 0
-Variables t ks n = (i : ℕ) → i < n → Node t (variableOf (getD ks i 0))
-
--- and stand before m
-abbrev pub Under : ℕ → List ℕ → ℕ → Type 0
-Under m ks n = (i : ℕ) → i < n → variableOf (getD ks i 0) < m
 
 -- the first n coefficients are within B
 abbrev pub Bounded : ℕ → List ℤ → ℕ → Type 0

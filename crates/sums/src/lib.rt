@@ -20,9 +20,10 @@ ghost use Rattle.integer.specs.Integers.{Within};
 ghost use Rattle.calculus.specs.Sums.{pbSum, summands, keep, maxSummands};
 ghost use Rattle.calculus.specs.Terms.{listed};
 ghost use Rattle.nodes.specs.Nodes.{decode, Node};
+ghost use Rattle.matching.specs.Entries.{Variables};
 ghost use Rattle.matching.specs.Matched.{variableOf};
-ghost use Rattle.sums.specs.Lists.{Room, Fine, Listed, Keyed, Bounded, Variables, noSlot, slotAt, maxEntries, maxTotal, maxAdded, maxCoefficient};
-ghost use Rattle.sums.specs.Found.{SameIs, PlaceIs, FindIs, Put1, Appended, PutIs, SummandIs, Nodes, LoneIs, ReadIs, InequalityIs, KeptIs, SubsetIs, SameKeysIs, NamesAre, AddIs, CancelIs, ReduceIs};
+ghost use Rattle.sums.specs.Lists.{Room, Fine, Listed, Keyed, Bounded, noSlot, slotAt, maxEntries, maxTotal, maxAdded, maxCoefficient};
+ghost use Rattle.sums.specs.Found.{SameIs, PlaceIs, FindIs, Put1, Appended, PutIs, SummandIs, Nodes, LoneIs, ReadIs, InequalityIs, KeptIs, SubsetIs, SameKeysIs, AddIs, CancelIs, ReduceIs};
 
 // The entries that a lent sum has room for, and its slots; the last is for keys over no name.
 pub const MAX_ENTRIES: usize = 1024;
@@ -381,21 +382,6 @@ pub fn assert_pbsum_same_keys(
 
     // All keys in B are in A
     assert_pbsum_subset_keys(nodes, coeffs2, keys2, m, keys, slots, n)
-}
-
-// Whether each variable of n keys is a name.
-pub fn all_names(nodes: &[u32], keys: &[u32], n: usize) -> bool
-    requires { ⌜ Variables (now nodes) (now keys) n × (n ≤ length (now keys)) ⌝ }
-    ensures { λ r. ⌜ NamesAre (now (nodes .entry)) (now (keys .entry)) n r ⌝ }
-{
-    let mut i: usize = 0;
-    while i < n {
-        if !matching::is_name(nodes, matching::variable_of(keys[i])) {
-            return false;
-        }
-        i += 1;
-    }
-    true
 }
 
 // ---- adding and reducing

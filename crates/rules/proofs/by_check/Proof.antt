@@ -45,11 +45,11 @@ all-names-requires c κs = ((c .before .before .before .before .before .before .
 all-names-requires-2 : tie.Need-all-names-requires-2
 all-names-requires-2 c κs = ((c .before .before .before .before .before .before .before .before .before .before .before .before .before .before .before .before .before .pre) .1 .1 .0 .fine .nodes, omega (arith, (c .before .before .before .before .before .before .before .before .before .before .before .before .before .before .before .before .before .pre) .1 .1 .0 .fine .few, (c .before .before .before .before .before .before .before .before .before .before .before .before .before .before .before .before .before .pre) .1 .1 .0 .keys))
 
-and-requires : tie.Need-and-requires
-and-requires c κs = search needs
+both-requires : tie.Need-both-requires
+both-requires c κs = search needs
 
 returns-5 : tie.Need-returns-5
-returns-5 c = λ x u v. unless-zero ((c .before .before .before .before .before .before .before .before .before .before .before .before .before .before .before .before .before .before .before .args) .two .number) _ _ (omega (arith, (c .before .before .before .before .before .before .before .before .before .before .before .before .if1) .left)) (by-all (mapOf ((c .before .before .before .before .before .before .before .before .before .before .before .before .before .before .before .before .before .before .before .args) .by)) (inequality (entries (term x) ((c .before .before .before .before .before .before .before .before .before .before .before .before .before .before .before .before .before .before .before .args) .coeffs .now) ((c .before .before .before .before .before .before .before .before .before .before .before .before .before .before .before .before .before .before .before .args) .keys .now) ((c .before .before .before .before .before .before .before .before .before .before .before .before .before .before .before .before .before .before .before .args) .two .count)) ((c .before .before .before .before .before .before .before .before .before .before .before .before .before .before .before .before .before .before .before .args) .two .constant)) (inequality (entries (term x) ((c .before .before .before .before .before .before .before .before .before .before .before .before .before .before .before .before .before .before .before .args) .coeffs2 .now) ((c .before .before .before .before .before .before .before .before .before .before .before .before .before .before .before .before .before .before .before .args) .keys2 .now) ((c .before .before .before .before .before .before .before .before .before .before .before .before .before .before .before .before .before .before .before .args) .two .count2)) ((c .before .before .before .before .before .before .before .before .before .before .before .before .before .before .before .before .before .before .before .args) .two .constant2)) (sym (not-false _ ((c .before .before .before .before .before .before .before .if2) .left)) ∙ ((c .before .before .before .before .before .before .before .before .same-integer) .ensures ∙ ap₂ sameInteger (back ((c .before .before .before .before .before .before .before .before .before .before .apply) .result) ((c .before .before .before .before .before .before .before .before .before .before .apply) .ok) ∙ (c .before .before .before .before .before .before .before .before .before .before .apply) .ensures ∙ ap (mapOf ((c .before .before .before .before .before .before .before .before .before .before .before .before .before .before .before .before .before .before .before .args) .by)) (kept (omega arith) ((c .before .before .before .before .before .before .before .before .before .before .before .before .before .before .before .before .before .before .before .pre) .0 .1))) (kept (omega arith) ((c .before .before .before .before .before .before .before .before .before .before .before .before .before .before .before .before .before .before .before .pre) .0 .2)))) (sym (not-false _ ((c .before .before .before .before .before .if3) .left)) ∙ (c .before .before .before .before .before .before .assert-pbsum-same-keys) .ensures x u v) _ (sym (not-false _ ((c .before .before .before .if4) .left)) ∙ (c .before .before .before .before .coefficients-agree) .ensures x u v) ((c .and) .ensures ∙ ap₂ _&&_ ((c .before .before .all-names) .ensures (x .text) ((c .before .before .before .before .before .before .before .before .before .before .before .before .before .before .before .before .before .before .before .args) .coeffs .now)) ((c .before .all-names2) .ensures (x .text) ((c .before .before .before .before .before .before .before .before .before .before .before .before .before .before .before .before .before .before .before .args) .coeffs2 .now))))
+returns-5 c = λ x u v. unless-zero ((c .before .before .before .before .before .before .before .before .before .before .before .before .before .before .before .before .before .before .before .args) .two .number) _ _ (omega (arith, (c .before .before .before .before .before .before .before .before .before .before .before .before .if1) .left)) (by-all (mapOf ((c .before .before .before .before .before .before .before .before .before .before .before .before .before .before .before .before .before .before .before .args) .by)) (inequality (entries (term x) ((c .before .before .before .before .before .before .before .before .before .before .before .before .before .before .before .before .before .before .before .args) .coeffs .now) ((c .before .before .before .before .before .before .before .before .before .before .before .before .before .before .before .before .before .before .before .args) .keys .now) ((c .before .before .before .before .before .before .before .before .before .before .before .before .before .before .before .before .before .before .before .args) .two .count)) ((c .before .before .before .before .before .before .before .before .before .before .before .before .before .before .before .before .before .before .before .args) .two .constant)) (inequality (entries (term x) ((c .before .before .before .before .before .before .before .before .before .before .before .before .before .before .before .before .before .before .before .args) .coeffs2 .now) ((c .before .before .before .before .before .before .before .before .before .before .before .before .before .before .before .before .before .before .before .args) .keys2 .now) ((c .before .before .before .before .before .before .before .before .before .before .before .before .before .before .before .before .before .before .before .args) .two .count2)) ((c .before .before .before .before .before .before .before .before .before .before .before .before .before .before .before .before .before .before .before .args) .two .constant2)) (sym (not-false _ ((c .before .before .before .before .before .before .before .if2) .left)) ∙ ((c .before .before .before .before .before .before .before .before .same-integer) .ensures ∙ ap₂ sameInteger (back ((c .before .before .before .before .before .before .before .before .before .before .apply) .result) ((c .before .before .before .before .before .before .before .before .before .before .apply) .ok) ∙ (c .before .before .before .before .before .before .before .before .before .before .apply) .ensures ∙ ap (mapOf ((c .before .before .before .before .before .before .before .before .before .before .before .before .before .before .before .before .before .before .before .args) .by)) (kept (omega arith) ((c .before .before .before .before .before .before .before .before .before .before .before .before .before .before .before .before .before .before .before .pre) .0 .1))) (kept (omega arith) ((c .before .before .before .before .before .before .before .before .before .before .before .before .before .before .before .before .before .before .before .pre) .0 .2)))) (sym (not-false _ ((c .before .before .before .before .before .if3) .left)) ∙ (c .before .before .before .before .before .before .assert-pbsum-same-keys) .ensures x u v) _ (sym (not-false _ ((c .before .before .before .if4) .left)) ∙ (c .before .before .before .before .coefficients-agree) .ensures x u v) ((c .both) .ensures ∙ ap₂ _&&_ ((c .before .before .all-names) .ensures (x .text) ((c .before .before .before .before .before .before .before .before .before .before .before .before .before .before .before .before .before .before .before .args) .coeffs .now)) ((c .before .all-names2) .ensures (x .text) ((c .before .before .before .before .before .before .before .before .before .before .before .before .before .before .before .before .before .before .before .args) .coeffs2 .now))))
 
 pub by-check-spec : {M : Type 1} → statement M
 by-check-spec =
@@ -65,5 +65,5 @@ by-check-spec =
     returns-4
     all-names-requires
     all-names-requires-2
-    and-requires
+    both-requires
     returns-5)

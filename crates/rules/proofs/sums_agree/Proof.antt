@@ -42,11 +42,11 @@ returns-4 c = λ x u v. unless-zero ((c .before .before .before .before .before 
 zeros-face-zeros-requires : tie.Need-zeros-face-zeros-requires
 zeros-face-zeros-requires c κs = ((c .before .before .before .before .before .before .before .before .before .before .before .before .before .pre) .1 .0, listed-of ((c .before .before .before .before .before .before .before .before .before .before .before .before .before .pre) .1 .1 .0) ((c .before .before .before .before .before .before .before .before .before .before .before .before .before .pre) .1 .1 .1))
 
-and-requires : tie.Need-and-requires
-and-requires c κs = search needs
+both-requires : tie.Need-both-requires
+both-requires c κs = search needs
 
 returns-5 : tie.Need-returns-5
-returns-5 c = λ x u v. unless-zero ((c .before .before .before .before .before .before .before .before .before .before .before .before .before .before .before .args) .number) _ _ (omega (arith, (c .before .before .before .before .before .before .before .before .before .if1) .left)) (sums-all ((c .before .before .before .before .before .before .before .before .before .before .before .before .before .before .before .args) .total) ((c .before .before .before .before .before .before .before .before .before .before .before .before .before .before .before .args) .slack) (entries (term x) ((c .before .before .before .before .before .before .before .before .before .before .before .before .before .before .before .args) .reduced .now) ((c .before .before .before .before .before .before .before .before .before .before .before .before .before .before .before .args) .keys .now) ((c .before .before .before .before .before .before .before .before .before .before .before .before .before .before .before .args) .n)) ((c .before .before .before .before .before .before .before .before .before .before .before .before .before .before .before .args) .constant) (entries (term x) ((c .before .before .before .before .before .before .before .before .before .before .before .before .before .before .before .args) .coeffs2 .now) ((c .before .before .before .before .before .before .before .before .before .before .before .before .before .before .before .args) .keys2 .now) ((c .before .before .before .before .before .before .before .before .before .before .before .before .before .before .before .args) .m)) ((c .before .before .before .before .before .before .before .before .before .before .before .before .before .before .before .args) .names) (sym (not-false _ ((c .before .before .before .before .before .before .if2) .left)) ∙ ((c .before .before .before .before .before .before .before .same-integer) .ensures ∙ ap₂ sameInteger (toZ-ofZ ((c .before .before .before .before .before .before .before .before .before .before .before .before .before .before .before .fits) .total)) (back ((c .before .before .before .before .before .before .before .before .add) .result) ((c .before .before .before .before .before .before .before .before .add) .ok) ∙ (c .before .before .before .before .before .before .before .before .add) .ensures ∙ ap₂ _+ℤ_ (toZ-ofZ ((c .before .before .before .before .before .before .before .before .before .before .before .before .before .before .before .fits) .constant)) (toZ-ofZ ((c .before .before .before .before .before .before .before .before .before .before .before .before .before .before .before .fits) .slack))))) (sym (not-false _ ((c .before .before .before .before .if3) .left)) ∙ (c .before .before .before .before .before .assert-pbsum-same-keys) .ensures x u v) _ ((c .before .zeros-face-zeros) .result) (sym (not-false _ ((c .before .before .if4) .left)) ∙ (c .before .before .before .coefficients-are) .ensures x u v) ((c .and) .ensures) ((c .before .zeros-face-zeros) .ensures x u v))
+returns-5 c = λ x u v. unless-zero ((c .before .before .before .before .before .before .before .before .before .before .before .before .before .before .before .args) .number) _ _ (omega (arith, (c .before .before .before .before .before .before .before .before .before .if1) .left)) (sums-all ((c .before .before .before .before .before .before .before .before .before .before .before .before .before .before .before .args) .total) ((c .before .before .before .before .before .before .before .before .before .before .before .before .before .before .before .args) .slack) (entries (term x) ((c .before .before .before .before .before .before .before .before .before .before .before .before .before .before .before .args) .reduced .now) ((c .before .before .before .before .before .before .before .before .before .before .before .before .before .before .before .args) .keys .now) ((c .before .before .before .before .before .before .before .before .before .before .before .before .before .before .before .args) .n)) ((c .before .before .before .before .before .before .before .before .before .before .before .before .before .before .before .args) .constant) (entries (term x) ((c .before .before .before .before .before .before .before .before .before .before .before .before .before .before .before .args) .coeffs2 .now) ((c .before .before .before .before .before .before .before .before .before .before .before .before .before .before .before .args) .keys2 .now) ((c .before .before .before .before .before .before .before .before .before .before .before .before .before .before .before .args) .m)) ((c .before .before .before .before .before .before .before .before .before .before .before .before .before .before .before .args) .names) (sym (not-false _ ((c .before .before .before .before .before .before .if2) .left)) ∙ ((c .before .before .before .before .before .before .before .same-integer) .ensures ∙ ap₂ sameInteger (toZ-ofZ ((c .before .before .before .before .before .before .before .before .before .before .before .before .before .before .before .fits) .total)) (back ((c .before .before .before .before .before .before .before .before .add) .result) ((c .before .before .before .before .before .before .before .before .add) .ok) ∙ (c .before .before .before .before .before .before .before .before .add) .ensures ∙ ap₂ _+ℤ_ (toZ-ofZ ((c .before .before .before .before .before .before .before .before .before .before .before .before .before .before .before .fits) .constant)) (toZ-ofZ ((c .before .before .before .before .before .before .before .before .before .before .before .before .before .before .before .fits) .slack))))) (sym (not-false _ ((c .before .before .before .before .if3) .left)) ∙ (c .before .before .before .before .before .assert-pbsum-same-keys) .ensures x u v) _ ((c .before .zeros-face-zeros) .result) (sym (not-false _ ((c .before .before .if4) .left)) ∙ (c .before .before .before .coefficients-are) .ensures x u v) ((c .both) .ensures) ((c .before .zeros-face-zeros) .ensures x u v))
 
 pub sums-agree-spec : {M : Type 1} → statement M
 sums-agree-spec =
@@ -61,5 +61,5 @@ sums-agree-spec =
     coefficients-are-requires
     returns-4
     zeros-face-zeros-requires
-    and-requires
+    both-requires
     returns-5)

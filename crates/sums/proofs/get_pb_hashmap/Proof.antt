@@ -1,5 +1,4 @@
 -- The ways through the definition: too many, a lone constant, the summands.
--- The ways through the definition: too many, a lone constant, the summands.
 use mathlib.Core.Path.{refl, sym, subst, _∙_}
 use native.Mathlib.Omega.{arith}
 use borrow.Author.Needs.{needs}

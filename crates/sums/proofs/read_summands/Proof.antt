@@ -1,5 +1,4 @@
 -- The loop's invariant: the sum of the whole is the sum of the summands that are left, added to the entries so far.
--- The loop's invariant: the sum of the whole is the sum of the summands that are left, added to the entries so far.
 use mathlib.Core.Path.{_≡_, refl}
 use Prim.Native.Nat.{_-_, _≤_}
 use native.Mathlib.Omega.{arith}

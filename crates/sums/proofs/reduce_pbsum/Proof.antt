@@ -1,5 +1,4 @@
 -- The loop's invariant: the first coefficients are reduced, and the slack so far with that of the rest is that of the whole.
--- The loop's invariant: the first coefficients are reduced, and the slack so far with that of the rest is that of the whole.
 use mathlib.Core.Path.{_≡_, refl, _∙_}
 use Prim.Native.Nat.{_-_, _≤_}
 use native.Mathlib.Omega.{arith}

@@ -1,0 +1,91 @@
+-- The answers of a file's commands: each is its line's, and stands in the slices behind those above.
+use mathlib.Core.Path.{_≡_, refl, sym, ap, _∙_}
+use mathlib.Core.Bool.{Bool, true, false}
+use mathlib.Core.List.{List}
+use Prim.Native.Nat.{ℕ, _+_, _-_, _≤_, _<_}
+use native.Mathlib.Nat.{not-suc-le-zero}
+use native.Mathlib.Omega.{arith}
+use lib.IntN.{ℤ}
+use lib.ListN.{length, getD, set, replicate, length-replicate}
+use lib.Seq.{getD-set-same, getD-set-other}
+use Rattle.calculus.specs.Marks.{numberOf, plainOf}
+use Rattle.calculus.specs.Words.{ok}
+use Rattle.nodes.proofs.Tables.{by-node}
+use Rattle.matching.specs.Matched.{answerOf}
+use Rattle.matching.specs.declared.Answer.{Answer}
+use Rattle.reader.specs.Commands.{wordAt, kindWord}
+use Rattle.sums.specs.Lists.{Room, maxEntries}
+use Rattle.steps.specs.Answers.{Given, StepIs}
+use Rattle.steps.proofs.Stepping.{in-all}
+use Rattle.checker.specs.Runs.{File, commandLine, AnswerIs, AnswersAre}
+use Rattle.checker.proofs.Lining.{assumed-answer, step-answer}
+
+-- ---- one command
+module _ {s t w : List ℕ} {n : ℕ} (f : File s t w n) where
+  pub given-of : (k : ℕ) → k < n → 1 ≤ wordAt w k kindWord → Given t w k
+  given-of k h i = record {
+    n = f .nodes;
+    c = f .children;
+    table = f .table;
+    room = f .commands .room;
+    few = omega (arith, f .commands .few);
+    each = λ j g. f .commands .each j (omega arith);
+    step = i;
+  }
+
+  -- an assumption is accepted
+  pub by-assumption : (k : ℕ) → wordAt w k kindWord ≡ 0 → ok true ≡ commandLine s t w k .answer
+  by-assumption k e = sym (assumed-answer f k e)
+
+  -- a step is answered by its rule
+  pub by-step : (k : ℕ) (r : Answer) → k < n → 1 ≤ wordAt w k kindWord → StepIs t w k r → answerOf r ≡ commandLine s t w k .answer
+  unfolding given-of
+  by-step k r h i q =
+      q (record { text = s; n = f .nodes; named = f .named }) (in-all (given-of k h i) (f .nodes) (omega arith))
+      ∙ sym (step-answer f k (wordAt w k kindWord - 1) h (omega arith))
+
+-- ---- the answers so far
+-- the first places of a slice hold the values of g, and so does the next that is set
+pub first-more : {A : Type 0} (l : List A) (d : A) (g : ℕ → A) (k : ℕ) (a : A) {m : List A} → ((j : ℕ) → j < k → getD l j d ≡ g j) → k < length l → a ≡ g k → m ≡ set l k a
+    → (j : ℕ) → j < k + 1 → getD m j d ≡ g j
+first-more {A} l d g k a {m} f h e q j i =
+    by-node {i = j} {n = k} i
+    (λ b. ap (λ (v : List A). getD v j d) q ∙ getD-set-other l k j a d (λ z. let v : ⊥ = omega (arith, z) in v) ∙ f j b)
+    (λ z. ap (λ (v : List A). getD v j d) q ∙ ap (λ (v : ℕ). getD (set l k a) v d) z ∙ getD-set-same l k a d h ∙ e ∙ ap g (sym z))
+
+pub answers-none : (t w ns : List ℕ) (n : ℕ) (ps : List Bool) → AnswersAre t w n 0 ns ps
+answers-none t w ns n ps s f = (λ j h. absurd (not-suc-le-zero h), λ j h. absurd (not-suc-le-zero h))
+
+pub answers-more : (t w ns : List ℕ) (n : ℕ) (ps : List Bool) (k : ℕ) (r : Answer) {ms : List ℕ} {qs : List Bool} → AnswersAre t w n k ns ps → k < length ns → k < length ps
+    → AnswerIs t w n k r → ms ≡ set ns k (numberOf (answerOf r)) → qs ≡ set ps k (plainOf (answerOf r)) → AnswersAre t w n (k + 1) ms qs
+answers-more t w ns n ps k r A g h e m q s f =
+    let (numbers, plains) = A s f in (
+      first-more ns 0 (λ (j : ℕ). numberOf (commandLine s t w j .answer)) k (numberOf (answerOf r)) numbers g (ap numberOf (e s f)) m,
+      first-more ps false (λ (j : ℕ). plainOf (commandLine s t w j .answer)) k (plainOf (answerOf r)) plains h (ap plainOf (e s f)) q,
+    )
+
+pub answers-all : (t w ns : List ℕ) (n : ℕ) (ps : List Bool) (k : ℕ) → AnswersAre t w n k ns ps → n ≤ k → AnswersAre t w n n ns ps
+answers-all t w ns n ps k A h s f = let (numbers, plains) = A s f in (λ j i. numbers j (omega arith), λ j i. plains j (omega arith))
+
+-- ---- the room of every sum
+-- the slices of a sum have the lengths that they had
+pub record Kept (cs₀ : List ℤ) (ks₀ sl₀ : List ℕ) (cs : List ℤ) (ks sl : List ℕ) : Type 0 where
+  pub coefficients : length cs ≡ length cs₀
+  pub keys : length ks ≡ length ks₀
+  pub slots : length sl ≡ length sl₀
+
+pub kept-refl : (cs : List ℤ) (ks sl : List ℕ) → Kept cs ks sl cs ks sl
+kept-refl cs ks sl = record { coefficients = refl; keys = refl; slots = refl }
+
+pub kept-room : {cs₀ : List ℤ} {ks₀ sl₀ : List ℕ} {cs : List ℤ} {ks sl : List ℕ} → Kept cs₀ ks₀ sl₀ cs ks sl → Room cs₀ ks₀ sl₀ → Room cs ks sl
+kept-room k r = record { coefficients = omega (arith, k .coefficients, r .coefficients); keys = omega (arith, k .keys, r .keys); slots = omega (arith, k .slots, r .slots) }
+
+pub room-of : (z : ℤ) (a b : ℕ) → Room (replicate 1024 z) (replicate 1024 a) (replicate 8193 b)
+room-of z a b = record {
+  coefficients = omega (arith, length-replicate 1024 z);
+  keys = omega (arith, length-replicate 1024 a);
+  slots = omega (arith, length-replicate 8193 b);
+}
+
+pub entries-of : (z : ℤ) → maxEntries ≤ length (replicate 1024 z)
+entries-of z = omega (arith, length-replicate 1024 z)

@@ -1,0 +1,5 @@
+pub mod Answering
+pub mod Distinct
+pub mod Lining
+pub mod Marking
+pub mod Reporting

@@ -1,0 +1,117 @@
+// The marks of a line over the node table: whether a term is a statement, and whether a clause is a contradiction (01, section 5).
+use matching::AND;
+use matching::EQ;
+use matching::GE;
+use nodes::PLUS_KIND;
+ghost use mathlib.Core.Path.{_≡_};
+ghost use mathlib.Core.List.{List, map};
+ghost use Prim.Native.Nat.{ℕ, _<_};
+ghost use lib.ListN.{length, getD};
+ghost use Rattle.calculus.specs.Marks as marks;
+ghost use Rattle.calculus.specs.Truth.{isArithmetic, areArithmetic, isStatement, areStatements};
+ghost use Rattle.nodes.specs.Nodes.{decode, Node};
+ghost use Rattle.marks.specs.Arguments.{AreNodes, argumentsAt};
+
+// ---- arithmetic
+// Whether node i is a numeral, a name, or one of `+ - *` over arithmetic.
+fn is_arithmetic(nodes: &[u32], i: u32) -> bool
+    requires { ⌜ Node (now nodes) i ⌝ }
+    ensures { λ r. ⌜ ((s : List ℕ) → r ≡ isArithmetic (decode s (now (nodes .entry)) i)) ⌝ }
+{
+    let at = nodes::wide(i);
+    let kind = nodes::kind_of(nodes, at);
+    if kind >= PLUS_KIND {
+        return true;
+    }
+    if kind >= GE {
+        return false;
+    }
+    are_arithmetic(nodes, nodes::children(nodes, at))
+}
+
+// Whether each of the arguments is arithmetic.
+fn are_arithmetic(nodes: &[u32], args: &[u32]) -> bool
+    requires { ⌜ AreNodes (now nodes) (now args) ⌝ }
+    ensures { λ r. ⌜ ((s : List ℕ) → r ≡ areArithmetic (argumentsAt s (now (nodes .entry)) (now (args .entry)))) ⌝ }
+{
+    let mut k: usize = 0;
+    while k < args.len() {
+        if !is_arithmetic(nodes, args[k]) {
+            return false;
+        }
+        k += 1;
+    }
+    true
+}
+
+// ---- statements
+// Whether node i is a two-argument relation of arithmetic, `and` of statements, or `=` of two statements.
+pub fn is_statement(nodes: &[u32], i: u32) -> bool
+    requires { ⌜ Node (now nodes) i ⌝ }
+    ensures { λ r. ⌜ ((s : List ℕ) → r ≡ isStatement (decode s (now (nodes .entry)) i)) ⌝ }
+{
+    let at = nodes::wide(i);
+    let kind = nodes::kind_of(nodes, at);
+    if kind < GE {
+        return false;
+    }
+    if kind >= PLUS_KIND {
+        return false;
+    }
+    let args = nodes::children(nodes, at);
+    if kind == AND {
+        return are_statements(nodes, args);
+    }
+    if args.len() != 2 {
+        return false;
+    }
+    if are_arithmetic(nodes, args) {
+        return true;
+    }
+    if kind != EQ {
+        return false;
+    }
+    are_statements(nodes, args)
+}
+
+// Whether each of the arguments is a statement.
+fn are_statements(nodes: &[u32], args: &[u32]) -> bool
+    requires { ⌜ AreNodes (now nodes) (now args) ⌝ }
+    ensures { λ r. ⌜ ((s : List ℕ) → r ≡ areStatements (argumentsAt s (now (nodes .entry)) (now (args .entry)))) ⌝ }
+{
+    let mut j: usize = 0;
+    while j < args.len() {
+        if !is_statement(nodes, args[j]) {
+            return false;
+        }
+        j += 1;
+    }
+    true
+}
+
+// ---- contradictions
+// Whether a clause is the one term (>= 0 k), k at least 1.
+pub fn contradiction(nodes: &[u32], clause: &[u32]) -> bool
+    requires { ⌜ ((i : ℕ) → i < length (now clause) → Node (now nodes) (getD (now clause) i 0)) ⌝ }
+    ensures { λ r. ⌜ ((s : List ℕ) → r ≡ marks.contradiction (map (decode s (now (nodes .entry))) (now (clause .entry)))) ⌝ }
+{
+    if clause.len() != 1 {
+        return false;
+    }
+    match matching::binary(nodes, GE, clause[0]) {
+        matching::Pair::Not => false,
+        matching::Pair::Of(left, right) => match matching::as_constant(nodes, left) {
+            matching::Constant::Not => false,
+            matching::Constant::Is(z) => {
+                if integer::is_zero(z) {
+                    match matching::as_constant(nodes, right) {
+                        matching::Constant::Not => false,
+                        matching::Constant::Is(k) => integer::at_most(1, k),
+                    }
+                } else {
+                    false
+                }
+            }
+        },
+    }
+}
