@@ -13,8 +13,9 @@ use Rattle.calculus.specs.Terms.{Term}
 use Rattle.calculus.specs.Truth.{isStatement}
 use Rattle.nodes.specs.Nodes.{decode}
 use Rattle.nodes.proofs.Tables.{below-at, by-node}
+use Rattle.matching.specs.Matched.{AllNodes}
 use Rattle.reader.specs.Commands.{wordAt, kindWord, clauseWord, premisesWord, argumentsWord, partAt}
-use Rattle.links.specs.Steps.{AllNodes, Part}
+use Rattle.links.specs.Steps.{Part}
 use Rattle.steps.proofs.Stepping.{part-used, nodes-used}
 use Rattle.checker.specs.Runs.{File, commandLines, commandLine, Marked, allMarked}
 use Rattle.checker.proofs.Answering.{first-more}

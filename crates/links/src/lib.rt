@@ -26,8 +26,9 @@ ghost use Rattle.calculus.specs.Links.{cpPart, cpTransfer};
 ghost use Rattle.calculus.specs.Matching.{isName};
 ghost use Rattle.calculus.specs.Rules.{cpLiteral, litPlain};
 ghost use Rattle.nodes.specs.Nodes.{decode, Node};
+ghost use Rattle.matching.specs.Matched.{AllNodes};
 ghost use Rattle.reader.specs.Commands.{idWords, wordAt, partAt, clauseWord};
-ghost use Rattle.links.specs.Steps.{Part, Clause, AllNodes, Step, RuleIs, OneIs, BothIs, SideIs, SameAs, LiteralIs, TransferIs, PartIs};
+ghost use Rattle.links.specs.Steps.{Part, Clause, Step, RuleIs, OneIs, BothIs, SideIs, SameAs, LiteralIs, TransferIs, PartIs};
 
 // ---- which word of a command is which: the kind, and the first of the two of each part
 pub const KIND_WORD: usize = 0;

@@ -11,7 +11,8 @@ use Rattle.calculus.specs.Terms.{Term, Terms, nil, cons, listed}
 use Rattle.nodes.specs.Nodes.{plusKind, kindAt, firstAt, secondAt, childrenAt, decode, Below, Node}
 use Rattle.nodes.proofs.Tables.{below-at}
 use Rattle.matching.proofs.Matches.{node-before}
-use Rattle.marks.specs.Arguments.{AreNodes, argumentsAt}
+use Rattle.matching.specs.Matched.{AllNodes}
+use Rattle.marks.specs.Arguments.{argumentsAt}
 
 -- one more than the largest of the list
 unfoldable pub endOf : List ℕ → ℕ
@@ -34,7 +35,7 @@ abbrev pub children : List ℕ → ℕ → List ℕ
 children t i = childrenAt t (firstAt t i) (secondAt t i)
 
 module _ {t : List ℕ} {i : ℕ} (N : Node t i) (g : kindAt t i < plusKind) where
-  pub children-nodes : AreNodes t (children t i)
+  pub children-nodes : AllNodes t (children t i)
   children-nodes k h = node-before N (omega (arith, below-at (children t i) k (N .table .before i (N .below) g) h))
 
   pub children-end : endOf (children t i) ≤ i

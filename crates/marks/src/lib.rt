@@ -5,12 +5,12 @@ use matching::GE;
 use nodes::PLUS_KIND;
 ghost use mathlib.Core.Path.{_≡_};
 ghost use mathlib.Core.List.{List, map};
-ghost use Prim.Native.Nat.{ℕ, _<_};
-ghost use lib.ListN.{length, getD};
+ghost use Prim.Native.Nat.{ℕ};
 ghost use Rattle.calculus.specs.Marks as marks;
 ghost use Rattle.calculus.specs.Truth.{isArithmetic, areArithmetic, isStatement, areStatements};
 ghost use Rattle.nodes.specs.Nodes.{decode, Node};
-ghost use Rattle.marks.specs.Arguments.{AreNodes, argumentsAt};
+ghost use Rattle.matching.specs.Matched.{AllNodes};
+ghost use Rattle.marks.specs.Arguments.{argumentsAt};
 
 // ---- arithmetic
 // Whether node i is a numeral, a name, or one of `+ - *` over arithmetic.
@@ -31,7 +31,7 @@ fn is_arithmetic(nodes: &[u32], i: u32) -> bool
 
 // Whether each of the arguments is arithmetic.
 fn are_arithmetic(nodes: &[u32], args: &[u32]) -> bool
-    requires { ⌜ AreNodes (now nodes) (now args) ⌝ }
+    requires { ⌜ AllNodes (now nodes) (now args) ⌝ }
     ensures { λ r. ⌜ ((s : List ℕ) → r ≡ areArithmetic (argumentsAt s (now (nodes .entry)) (now (args .entry)))) ⌝ }
 {
     let mut k: usize = 0;
@@ -76,7 +76,7 @@ pub fn is_statement(nodes: &[u32], i: u32) -> bool
 
 // Whether each of the arguments is a statement.
 fn are_statements(nodes: &[u32], args: &[u32]) -> bool
-    requires { ⌜ AreNodes (now nodes) (now args) ⌝ }
+    requires { ⌜ AllNodes (now nodes) (now args) ⌝ }
     ensures { λ r. ⌜ ((s : List ℕ) → r ≡ areStatements (argumentsAt s (now (nodes .entry)) (now (args .entry)))) ⌝ }
 {
     let mut j: usize = 0;
@@ -92,7 +92,7 @@ fn are_statements(nodes: &[u32], args: &[u32]) -> bool
 // ---- contradictions
 // Whether a clause is the one term (>= 0 k), k at least 1.
 pub fn contradiction(nodes: &[u32], clause: &[u32]) -> bool
-    requires { ⌜ ((i : ℕ) → i < length (now clause) → Node (now nodes) (getD (now clause) i 0)) ⌝ }
+    requires { ⌜ AllNodes (now nodes) (now clause) ⌝ }
     ensures { λ r. ⌜ ((s : List ℕ) → r ≡ marks.contradiction (map (decode s (now (nodes .entry))) (now (clause .entry)))) ⌝ }
 {
     if clause.len() != 1 {

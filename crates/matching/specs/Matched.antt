@@ -2,9 +2,10 @@
 use mathlib.Core.Path.{_≡_}
 use mathlib.Core.Bool.{Bool, cond}
 use mathlib.Core.List.{List, map}
-use Prim.Native.Nat.{ℕ, suc, _+_, _*_, _/_, _%_, _≤_}
+use Prim.Native.Nat.{ℕ, suc, _+_, _*_, _/_, _%_, _≤_, _<_}
 use lib.Dec.{eqb}
 use lib.IntN.{ℤ}
+use lib.ListN.{length, getD}
 use Rattle.integer.specs.Integers.{Within}
 use Rattle.calculus.specs.Equality.{opOf}
 use Rattle.calculus.specs.Matching.{asConstant, binary, negOf}
@@ -40,6 +41,10 @@ term {t} x = decode (x .text) t
 pub record Inner (t : List ℕ) (i a : ℕ) : Type 0 where
   pub node : Node t a
   pub before : a ≤ i
+
+-- each of the list is a node
+abbrev pub AllNodes : List ℕ → List ℕ → Type 0
+AllNodes t l = (i : ℕ) → i < length l → Node t (getD l i 0)
 
 -- ---- numerals
 pub record ConstantAt (t : List ℕ) (i : ℕ) (z : ℤ) : Type 0 where

@@ -20,7 +20,7 @@ use Rattle.calculus.specs.Terms.{Term, sameInteger}
 use Rattle.calculus.specs.Words.{Res, ok, bad, bind, ensure}
 use Rattle.nodes.specs.Nodes.{decode}
 use Rattle.reader.specs.Commands.{clauseWord, partAt}
-use Rattle.matching.specs.Matched.{Text, term, ConstantAt}
+use Rattle.matching.specs.Matched.{Text, term, ConstantAt, AllNodes}
 use Rattle.matching.proofs.Checks.{bind-of, bind-bad, ensure-yes, ensure-no, or-of, or-bad}
 use Rattle.matching.specs.Entries.{run, entryAt, entries, Under}
 use Rattle.sums.specs.Lists.{Listed, Keyed, resOf}
@@ -28,7 +28,7 @@ use Rattle.sums.specs.Found.{FindIs}
 use Rattle.sums.proofs.Keys.{found-has, lost-has, found-get}
 use Rattle.matching.proofs.Runs.{all-start, all-more, all-stop, all-end}
 use Rattle.rules.specs.Checked.{AgreesIs, AllAgree, byTerms, timesTerms, overTerms, ScaledAt, capTerms, CappedAt, Nonnegative}
-use Rattle.links.specs.Steps.{AllNodes, Step, clauses, withOne, OneAt}
+use Rattle.links.specs.Steps.{Step, clauses, withOne, OneAt}
 use Rattle.links.proofs.Fronts.{single-of, single-not, one-of, one-not, none-of, none-not, first-node, first-under}
 use Rattle.matching.proofs.Matches.{integer-same, integer-other}
 

@@ -27,11 +27,11 @@ ghost use Rattle.calculus.specs.Sums.{maxSummands};
 ghost use Rattle.calculus.specs.Terms.{sameInteger};
 ghost use Rattle.calculus.specs.Words.{maxNumeral};
 ghost use Rattle.nodes.specs.Nodes.{Node};
-ghost use Rattle.matching.specs.Matched.{variableOf};
+ghost use Rattle.matching.specs.Matched.{variableOf, AllNodes};
 ghost use Rattle.normalize.specs.Lists.{Room as Lines};
 ghost use Rattle.sums.specs.Lists.{Room, Fine, Listed, Keyed, Bounded, maxEntries, maxTotal, maxAdded};
 ghost use Rattle.rules.specs.Checked.{firstNumber, TwoRead, ThreeRead, CappedCheck, mapOf, ByIs, AgreesIs, AllAgree, CheckIs, timesTerms, overTerms, Anything, Positive, ScaledIs, CappedIs, Nonnegative, CoefficientIs, EntryIs, FaceIs, CoefficientsAre, ZerosFace, SumsAgree, AddedIs};
-ghost use Rattle.links.specs.Steps.{AllNodes, Step, RuleIs};
+ghost use Rattle.links.specs.Steps.{Step, RuleIs};
 
 // ---- tests
 // Whether two integers are the same.

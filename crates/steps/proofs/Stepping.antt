@@ -9,10 +9,11 @@ use Rattle.calculus.specs.Writing.{maxCommands}
 use Rattle.nodes.specs.Nodes.{Below, Table}
 use Rattle.nodes.proofs.Tables.{below-at}
 use Rattle.matching.specs.declared.Answer.{Answer}
+use Rattle.matching.specs.Matched.{AllNodes}
 use Rattle.normalize.specs.Lists.{Room as Lines}
 use Rattle.reader.specs.Commands.{allWords, wordAt, kindWord, clauseWord, premisesWord, argumentsWord, partAt}
 use Rattle.sums.specs.Lists.{Room}
-use Rattle.links.specs.Steps.{AllNodes, AllUnder, Part, Clause, Step, In}
+use Rattle.links.specs.Steps.{AllUnder, Part, Clause, Step, In}
 use Rattle.steps.specs.Answers.{Given, NumberIs, StepIs}
 
 -- ---- what is published of a table

@@ -9,7 +9,8 @@ use matching::Answer;
 ghost use mathlib.Core.Path.{_≡_};
 ghost use Prim.Native.Nat.{_≤_, _<_};
 ghost use lib.ListN.{length};
-ghost use Rattle.links.specs.Steps.{AllNodes, Step};
+ghost use Rattle.matching.specs.Matched.{AllNodes};
+ghost use Rattle.links.specs.Steps.{Step};
 ghost use Rattle.steps.specs.Answers.{multiplicationNumber, literalNumber, normalizeNumber, Given, NumberIs, StepIs};
 ghost use Rattle.sums.specs.Lists.{Room, maxEntries};
 

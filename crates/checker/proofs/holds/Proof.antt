@@ -8,7 +8,7 @@ use borrow.Author.Tests.{not-true, not-false}
 use lib.ListN.{length, getD}
 use Rattle.calculus.specs.Truth.{isStatement}
 use Rattle.nodes.specs.Nodes.{decode}
-use Rattle.links.specs.Steps.{AllNodes}
+use Rattle.matching.specs.Matched.{AllNodes}
 use Rattle.checker.specs.Runs.{allMarked, Cited}
 use Rattle.checker.proofs.Lining.{clause-one}
 use Rattle.checker.proofs.Marking.{clause-part, premises-part, clause-nodes, premises-above, holds-assumed, holds-not, holds-cited}

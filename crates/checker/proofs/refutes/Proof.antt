@@ -6,7 +6,7 @@ use borrow.Author.Needs.{needs}
 use borrow.Author.Tests.{not-true, not-false}
 use Rattle.calculus.specs.Marks as clauses
 use Rattle.nodes.specs.Nodes.{decode}
-use Rattle.links.specs.Steps.{AllNodes}
+use Rattle.matching.specs.Matched.{AllNodes}
 use Rattle.checker.proofs.Marking.{clause-part, clause-nodes, refutes-not, refutes-is}
 use Rattle.checker.proofs.refutes.Statement.{statement}
 use Rattle.checker.proofs.refutes.Tie as tie
