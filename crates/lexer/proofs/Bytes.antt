@@ -1,4 +1,4 @@
--- Laws of bytes' classes, of names and of equal bytes.
+-- Laws of names and of equal bytes.
 use mathlib.Core.Path.{_≡_, refl, sym, ap, _∙_}
 use mathlib.Core.Bool.{Bool, true, false, _&&_, and-false, and-true}
 use mathlib.Core.Logic.{_⊎_, inl, inr}
@@ -10,10 +10,9 @@ use lib.Dec.{leb, eqb}
 use lib.ListN.{length, getD}
 use lib.Seq.{slice, slice-cons, slice-empty, length-slice}
 use borrow.Author.Tests.{le-leb, lt-leb, eq-eqb, ne-eqb, leb-true, leb-false}
-use Rattle.calculus.specs.Bytes.{classOf, digit, letter, isDigit, isLetter, inName}
+use Rattle.calculus.specs.Bytes.{isLetter, inName}
 use Rattle.calculus.specs.Terms.{sameName}
 use Rattle.calculus.specs.Words.{nameBytes, isNameText, maxName}
-use Rattle.lexer.proofs.Classes.{digit-class, letter-class}
 
 pub or-less : (a b : ℕ) → (a ≤ b) ⊎ (b < a)
 or-less a b = go (leb a b) refl
@@ -21,25 +20,6 @@ or-less a b = go (leb a b) refl
     go : (c : Bool) → leb a b ≡ c → (a ≤ b) ⊎ (b < a)
     go true e = inl (leb-true a b e)
     go false e = inr (leb-false a b e)
-
-module _ (b k : ℕ) (q : k ≡ classOf b) where
-  pub is-digit : isDigit b ≡ eqb k digit
-  is-digit = digit-class b ∙ ap (λ (c : ℕ). eqb c digit) (sym q)
-
-  pub is-letter : isLetter b ≡ eqb k letter
-  is-letter = letter-class b ∙ ap (λ (c : ℕ). eqb c letter) (sym q)
-
-  pub name-digit : k ≡ 4 → true ≡ inName b
-  unfolding inName
-  name-digit h = rw (is-digit, is-letter, h)
-
-  pub name-letter : k ≡ 5 → true ≡ inName b
-  unfolding inName
-  name-letter h = rw (is-digit, is-letter, h)
-
-  pub name-other : (k ≡ 4 → ⊥) → (k ≡ 5 → ⊥) → eqb b 46 ≡ inName b
-  unfolding inName
-  name-other h g = rw (is-digit, is-letter, ne-eqb k 4 h, ne-eqb k 5 g)
 
 -- ---- the bytes behind a name's first
 module _ (s : List ℕ) (i t : ℕ) (n : Bool) (q : nameBytes (slice i t s) ≡ n) (l : t ≤ length s) where
@@ -55,20 +35,20 @@ module _ (s : List ℕ) (i t : ℕ) (n : Bool) (q : nameBytes (slice i t s) ≡ 
   unfolding nameBytes
   names-end h g = let e : i ≡ t = omega arith in sym (rw (e, slice-empty t s)) ∙ q
 
-module _ (s : List ℕ) (f t k : ℕ) (h : f < t) (l : t ≤ length s) (q : k ≡ classOf (getD s f 0)) where
-  pub name-not : (k ≡ 5 → ⊥) → false ≡ (isNameText (slice f t s) && leb (t - f) maxName)
+module _ (s : List ℕ) (f t : ℕ) (h : f < t) (l : t ≤ length s) where
+  pub name-not : isLetter (getD s f 0) ≡ false → false ≡ (isNameText (slice f t s) && leb (t - f) maxName)
   unfolding isNameText
-  name-not d = rw (slice-cons f t s 0 h l, is-letter (getD s f 0) k q, ne-eqb k 5 d)
+  name-not d = rw (slice-cons f t s 0 h l, d)
 
   pub name-long : 32 < t - f → false ≡ (isNameText (slice f t s) && leb (t - f) maxName)
   name-long d = rw (lt-leb (t - f) maxName d) (sym (and-false (isNameText (slice f t s))))
 
-  pub name-yes : (r : Bool) → k ≡ 5 → t - f ≤ 32 → r ≡ nameBytes (slice (f + 1) t s) → r ≡ (isNameText (slice f t s) && leb (t - f) maxName)
+  pub name-yes : (r : Bool) → isLetter (getD s f 0) ≡ true → t - f ≤ 32 → r ≡ nameBytes (slice (f + 1) t s) → r ≡ (isNameText (slice f t s) && leb (t - f) maxName)
   unfolding isNameText
-  name-yes r d m e = rw (slice-cons f t s 0 h l, is-letter (getD s f 0) k q, d, le-leb (t - f) maxName m) (e ∙ rw (add-one f) (sym (and-true (nameBytes (slice (suc f) t s)))))
+  name-yes r d m e = rw (slice-cons f t s 0 h l, d, le-leb (t - f) maxName m) (e ∙ rw (add-one f) (sym (and-true (nameBytes (slice (suc f) t s)))))
 
 -- ---- equal bytes
-lengths-differ : (x y : List ℕ) → (length x ≡ length y → ⊥) → false ≡ sameName x y
+pub lengths-differ : (x y : List ℕ) → (length x ≡ length y → ⊥) → false ≡ sameName x y
 unfolding sameName
 lengths-differ [] [] h = absurd (h refl)
 lengths-differ [] (b ∷ y) h = refl

@@ -10,11 +10,10 @@ use borrow.Author.Tests.{le-leb, lt-leb, ne-eqb}
 use Rattle.calculus.specs.Grammar.{markOf}
 use Rattle.calculus.specs.Bytes.{classOf, isBlank, inWord, digit}
 use Rattle.calculus.specs.Words.{span, wordOf, judged, tokenAt, tokenBehind, tokenFrom}
-use Rattle.lexer.proofs.Classes.{blank-class, word-class}
-use Rattle.lexer.specs.Tokens.{within, tokenOf, Placed}
+use Rattle.lexer.specs.Tokens.{tokenOf, Placed}
 use Rattle.lexer.specs.declared.Token.the-variants.{End, Mark, Op, Num, Name, Bad}
 use Rattle.lexer.specs.declared.Token.{Token}
-use Rattle.lexer.proofs.Runs.{span-go, in-within}
+use Rattle.lexer.proofs.Runs.{span-go}
 
 pub slice-from : (p k : ℕ) (s : List ℕ) → slice p (p + k) s ≡ take k (drop p s)
 slice-from zero k s = let e : 0 + k ≡ k = omega arith in ap (λ (n : ℕ). take n s) e
@@ -27,14 +26,6 @@ slice-from (suc p) k [] =
     take-none (suc k) = refl
 slice-from (suc p) k (b ∷ s) = let e : suc p + k ≡ suc (p + k) = omega arith in ap (λ (n : ℕ). slice (suc p) n (b ∷ s)) e ∙ slice-from p k s
 
-span-ext : (p q : ℕ → Bool) → ((b : ℕ) → p b ≡ q b) → (bs : List ℕ) → span p bs ≡ span q bs
-unfolding span
-span-ext p q h [] = refl
-span-ext p q h (b ∷ bs) = rw (h b, span-ext p q h bs)
-
-pub word-progress : (s : List ℕ) (f k t : ℕ) → k ≡ classOf (getD s f 0) → f < length s → 4 ≤ k → k ≤ 6 → t ≡ f + span (within 4 6) (drop f s) → f < t
-word-progress s f k t e h l m r = omega (arith, span-go (within 4 6) s f h (in-within 4 6 _ k e l m))
-
 word-yes : (b k : ℕ) → k ≡ classOf b → digit ≤ k → inWord b ≡ true
 unfolding inWord
 word-yes b k q h = rw (← q, le-leb digit k h)
@@ -43,22 +34,24 @@ word-no : (b k : ℕ) → k ≡ classOf b → k < digit → inWord b ≡ false
 unfolding inWord
 word-no b k q h = rw (← q, lt-leb digit k h)
 
-module _ (s : List ℕ) (at f : ℕ) (start : f ≡ at + span (within 0 0) (drop at s)) where
+pub word-progress : (s : List ℕ) (f k t : ℕ) → k ≡ classOf (getD s f 0) → f < length s → 4 ≤ k → t ≡ f + span inWord (drop f s) → f < t
+word-progress s f k t e h l r = omega (arith, span-go inWord s f h (word-yes _ k e l))
+
+module _ (s : List ℕ) (at f : ℕ) (start : f ≡ at + span isBlank (drop at s)) where
   behind : tokenAt s at ≡ tokenFrom f (drop f s)
   unfolding tokenAt tokenBehind
-  behind = rw (span-ext isBlank (within 0 0) blank-class (drop at s), drop-drop (span (within 0 0) (drop at s)) at s, ← start)
+  behind = rw (drop-drop (span isBlank (drop at s)) at s, ← start)
 
   pub token-end : length s ≤ f → tokenOf s (End f) ≡ tokenAt s at
   unfolding tokenOf tokenFrom
   token-end h = rw (behind, drop-of-length-le s h)
 
-  pub token-word : (k t : ℕ) → k ≡ classOf (getD s f 0) → t ≡ f + span (within 4 6) (drop f s) → f < length s → 4 ≤ k → judged f t (wordOf (slice f t s)) ≡ tokenAt s at
+  pub token-word : (k t : ℕ) → k ≡ classOf (getD s f 0) → t ≡ f + span inWord (drop f s) → f < length s → 4 ≤ k → judged f t (wordOf (slice f t s)) ≡ tokenAt s at
   unfolding tokenFrom
   token-word k t q e h l =
-      let z : span inWord (drop f s) ≡ span (within 4 6) (drop f s) = span-ext inWord (within 4 6) word-class (drop f s) in
-      let y : slice f t s ≡ take (span (within 4 6) (drop f s)) (drop f s) = rw e (slice-from f (span (within 4 6) (drop f s)) s) in
+      let y : slice f t s ≡ take (span inWord (drop f s)) (drop f s) = rw e (slice-from f (span inWord (drop f s)) s) in
       let c : drop f s ≡ getD s f 0 ∷ drop (suc f) s = drop-cons s f 0 h in
-      rw (behind, y, e, ← z, c, word-yes (getD s f 0) k q l)
+      rw (behind, y, e, c, word-yes (getD s f 0) k q l)
 
   pub token-open : (k : ℕ) → k ≡ classOf (getD s f 0) → f < length s → k ≡ 2 → tokenOf s (Mark 0 f (f + 1)) ≡ tokenAt s at
   unfolding tokenOf tokenFrom markOf

@@ -1,22 +1,20 @@
 // Byte classes, runs of bytes, words, and the next token of a text (01, section 1).
 ghost use mathlib.Core.Path.{_≡_};
 ghost use mathlib.Core.Bool.{true, false, _&&_};
-ghost use mathlib.Core.List.{List, _∷_};
-ghost use Prim.Native.Nat.{ℕ, _+_, _-_, _≤_, _<_};
+ghost use mathlib.Core.List.{List, [], _∷_};
+ghost use Prim.Native.Nat.{ℕ, suc, _+_, _-_, _≤_, _<_};
 ghost use lib.ListN.{length, drop};
 ghost use lib.Dec.{leb};
 ghost use lib.Seq.{slice};
-ghost use Rattle.calculus.specs.Bytes.{byte, classOf, inName};
+ghost use Rattle.calculus.specs.Bytes.{byte, classOf, isBlank, isDigit, isLetter, inName, inWord};
 ghost use Rattle.calculus.specs.Terms.{sameName};
 ghost use Rattle.calculus.specs.Words.{ok, bind, span, numeral, numeralFirst, numeralOf, magnitude, nameBytes, isNameText, judged, wordOf, tokenAt, maxName};
-ghost use Rattle.lexer.specs.Tokens.{within, tokenOf, Placed, small, numberFrom, place, cut, Cuts, fixedTexts};
+ghost use Rattle.lexer.specs.Tokens.{tokenOf, Placed, small, numberFrom, place, cut, Cuts, fixedTexts, renumber};
 
 // The classes of bytes; those from DIGIT on are the bytes of words.
-pub const BLANK: u8 = 0;
-
 const OPENS: u8 = 2;
 
-pub const CLOSES: u8 = 3;
+const CLOSES: u8 = 3;
 
 const DIGIT: u8 = 4;
 
@@ -90,7 +88,7 @@ fn class_in_table(b: u8) -> u8
     CLASS[i] - b'0'
 }
 
-// The class of a byte: operators, capitals, `_` and line feeds by their ranges, any other byte by the table.
+// The class of a byte: operators, capitals and `_` by their ranges, any other byte by the table.
 fn rarer_class(b: u8) -> u8
     ensures { λ r. ⌜ r ≡ classOf b ⌝ }
 {
@@ -112,17 +110,20 @@ fn rarer_class(b: u8) -> u8
     if b == b'_' {
         return LETTER;
     }
-    if b == b'\n' {
-        return BLANK;
-    }
     class_in_table(b)
 }
 
 // The class of a byte. The bytes that texts are mostly made of are told at once, and last of all by the table, which is laid
 // out anew at each use.
-pub fn class(b: u8) -> u8
+fn class(b: u8) -> u8
     ensures { λ r. ⌜ r ≡ classOf b ⌝ }
 {
+    if b == b'(' {
+        return OPENS;
+    }
+    if b == b')' {
+        return CLOSES;
+    }
     if b'a' <= b {
         if b <= b'z' {
             return LETTER;
@@ -133,30 +134,114 @@ pub fn class(b: u8) -> u8
             return DIGIT;
         }
     }
-    if b == b' ' {
-        return BLANK;
-    }
-    if b == b'(' {
-        return OPENS;
-    }
-    if b == b')' {
-        return CLOSES;
-    }
     rarer_class(b)
 }
 
-// The end of the run of bytes from `at` on whose class is from lo to hi.
-pub fn run(text: &[u8], at: usize, lo: u8, hi: u8) -> usize
+// ---- tests of one byte, each by the ranges in which its answer is one
+// Whether b is a blank.
+fn is_blank(b: u8) -> bool
+    ensures { λ r. ⌜ r ≡ isBlank b ⌝ }
+{
+    if b' ' < b {
+        return false;
+    }
+    if b'\r' < b {
+        return b == b' ';
+    }
+    if b < b'\t' {
+        return false;
+    }
+    if b <= b'\n' {
+        return true;
+    }
+    b == b'\r'
+}
+
+// Whether b is a digit.
+fn is_digit(b: u8) -> bool
+    ensures { λ r. ⌜ r ≡ isDigit b ⌝ }
+{
+    if b < b'0' {
+        return false;
+    }
+    b <= b'9'
+}
+
+// Whether a name may begin with b.
+fn is_letter(b: u8) -> bool
+    ensures { λ r. ⌜ r ≡ isLetter b ⌝ }
+{
+    if b'a' <= b {
+        return b <= b'z';
+    }
+    if b < b'@' {
+        return false;
+    }
+    if b <= b'Z' {
+        return true;
+    }
+    b == b'_'
+}
+
+// Whether a name may go on with b.
+fn in_name(b: u8) -> bool
+    ensures { λ r. ⌜ r ≡ inName b ⌝ }
+{
+    if b'a' <= b {
+        return b <= b'z';
+    }
+    if b < b'0' {
+        return b == b'.';
+    }
+    if b <= b'9' {
+        return true;
+    }
+    if b < b'@' {
+        return false;
+    }
+    if b <= b'Z' {
+        return true;
+    }
+    b == b'_'
+}
+
+// Whether a word goes on with b: blanks, brackets and bad bytes end it.
+fn in_word(b: u8) -> bool
+    ensures { λ r. ⌜ r ≡ inWord b ⌝ }
+{
+    if b'*' <= b {
+        return b <= b'~';
+    }
+    if b <= b' ' {
+        return false;
+    }
+    b < b'('
+}
+
+// ---- runs of bytes
+// The first byte from `at` on that is no blank, or the text's end.
+pub fn behind_blanks(text: &[u8], at: usize) -> usize
     requires { ⌜ at ≤ length (now text) ⌝ }
-    ensures { λ r. ⌜ (r ≡ at + span (within lo hi) (drop at (now (text .entry)))) × (r ≤ length (now (text .entry))) ⌝ }
+    ensures { λ r. ⌜ (r ≡ at + span isBlank (drop at (now (text .entry)))) × (r ≤ length (now (text .entry))) ⌝ }
 {
     let mut i = at;
     while i < text.len() {
-        let k = class(text[i]);
-        if k < lo {
+        if !is_blank(text[i]) {
             return i;
         }
-        if hi < k {
+        i += 1;
+    }
+    i
+}
+
+// The end of the word that goes on at `at`.
+fn word_end(text: &[u8], at: usize) -> usize
+    requires { ⌜ at ≤ length (now text) ⌝ }
+    ensures { λ r. ⌜ (r ≡ at + span inWord (drop at (now (text .entry)))) × (r ≤ length (now (text .entry))) ⌝ }
+{
+    let mut i = at;
+    while i < text.len() {
+        if !in_word(text[i]) {
             return i;
         }
         i += 1;
@@ -175,16 +260,10 @@ pub enum Token {
     Bad(u8, usize),
 }
 
-// The words with one meaning, operators first, one after the other, and where each begins.
-const FIXED: [u8; 44] = *b"\
-    +\
-    -\
-    *\
+// The words with one meaning that have two bytes or more, one after the other, and where each begins.
+const LONGER: [u8; 38] = *b"\
     >=\
-    >\
     <=\
-    <\
-    =\
     and\
     cl\
     assume\
@@ -193,7 +272,9 @@ const FIXED: [u8; 44] = *b"\
     :premises\
     :args";
 
-const STARTS: [usize; 16] = [0, 1, 2, 3, 5, 6, 8, 9, 10, 13, 15, 21, 25, 30, 39, 44];
+const STARTS: [usize; 10] = [0, 2, 4, 7, 9, 15, 19, 24, 33, 38];
+
+const LONGER_WORDS: usize = 9;
 
 // Whether the bytes of x from a to b are those of y from `from` to `to`.
 pub fn same(x: &[u8], a: usize, b: usize, y: &[u8], from: usize, to: usize) -> bool
@@ -232,20 +313,73 @@ pub fn among(words: &[u8], starts: &[usize], n: usize, text: &[u8], from: usize,
     k
 }
 
-// Whether a word with one meaning may begin with b: of the letters only a, c and s do.
-fn leads(b: u8) -> bool
-    ensures { λ r. ⌜ (r ≡ false → (rest : List ℕ) → place fixedTexts (b ∷ rest) ≡ 15) ⌝ }
+// The place of a word of one byte among the words with one meaning, or their number.
+fn symbol(b: u8) -> usize
+    ensures { λ r. ⌜ (r ≡ place fixedTexts (b ∷ [])) × (r ≤ 15) ⌝ }
 {
-    if class(b) != LETTER {
+    if b == b'+' {
+        return 0;
+    }
+    if b == b'-' {
+        return 1;
+    }
+    if b == b'*' {
+        return 2;
+    }
+    if b == b'>' {
+        return 4;
+    }
+    if b == b'<' {
+        return 6;
+    }
+    if b == b'=' {
+        return 7;
+    }
+    WORDS
+}
+
+// Whether a word with one meaning may have n bytes and begin with b: of the letters only a, c and s begin one.
+fn leads(b: u8, n: usize) -> bool
+    ensures { λ r. ⌜ (r ≡ false → (rest : List ℕ) → suc (length rest) ≡ n → place fixedTexts (b ∷ rest) ≡ 15) ⌝ }
+{
+    if !is_letter(b) {
         return true;
     }
-    if b == b'a' {
-        return true;
+    if n == 2 {
+        return b == b'c';
     }
-    if b == b'c' {
-        return true;
+    if n == 4 {
+        return b == b's';
     }
-    b == b's'
+    if n == 3 {
+        return b == b'a';
+    }
+    if n == 6 {
+        return b == b'a';
+    }
+    false
+}
+
+// The place of a longer word among all words with one meaning, by that among the longer ones.
+fn renumbered(k: usize) -> usize
+    requires { ⌜ k ≤ 9 ⌝ }
+    ensures { λ r. ⌜ (r ≡ renumber k) × (r ≤ 15) ⌝ }
+{
+    if k == 0 {
+        return 3;
+    }
+    if k == 1 {
+        return 5;
+    }
+    k + 6
+}
+
+// The place of the bytes from `from` to `to`, two or more, among the words with one meaning, or their number.
+fn longer(text: &[u8], from: usize, to: usize) -> usize
+    requires { ⌜ (from + 1 < to) × (to ≤ length (now text)) ⌝ }
+    ensures { λ r. ⌜ (r ≡ place fixedTexts (slice from to (now (text .entry)))) × (r ≤ 15) ⌝ }
+{
+    renumbered(among(&LONGER, &STARTS, LONGER_WORDS, text, from, to))
 }
 
 // The place of the bytes from `from` to `to` among the words with one meaning, or their number.
@@ -253,10 +387,15 @@ fn fixed(text: &[u8], from: usize, to: usize) -> usize
     requires { ⌜ (from < to) × (to ≤ length (now text)) ⌝ }
     ensures { λ r. ⌜ (r ≡ place fixedTexts (slice from to (now (text .entry)))) × (r ≤ 15) ⌝ }
 {
-    if !leads(text[from]) {
-        return WORDS;
+    let b = text[from];
+    let n = to - from;
+    if n == 1 {
+        return symbol(b);
     }
-    among(&FIXED, &STARTS, WORDS, text, from, to)
+    if leads(b, n) {
+        return longer(text, from, to);
+    }
+    WORDS
 }
 
 // What a digit stands for; 0 below the digits.
@@ -275,8 +414,7 @@ fn number(text: &[u8], from: usize, to: usize) -> u32
     let mut i = from;
     while i < to {
         let b = text[i];
-        let k = class(b);
-        if k != DIGIT {
+        if !is_digit(b) {
             return NO_NUMERAL;
         }
         let d = digit_value(b);
@@ -308,7 +446,7 @@ fn numeral_first(text: &[u8], from: usize, to: usize) -> bool
     ensures { λ r. ⌜ r ≡ numeralFirst (slice from to (now (text .entry))) ⌝ }
 {
     let b = text[from];
-    if class(b) == DIGIT {
+    if is_digit(b) {
         return true;
     }
     if b != b'-' {
@@ -317,7 +455,7 @@ fn numeral_first(text: &[u8], from: usize, to: usize) -> bool
     if to - from < 2 {
         return false;
     }
-    class(text[from + 1]) == DIGIT
+    is_digit(text[from + 1])
 }
 
 // The numeral from `from` to `to`.
@@ -342,20 +480,6 @@ fn numeral(text: &[u8], from: usize, to: usize) -> Token
     Token::Num(false, v, from, to)
 }
 
-// Whether a name may go on with b.
-fn in_name(b: u8) -> bool
-    ensures { λ r. ⌜ r ≡ inName b ⌝ }
-{
-    let k = class(b);
-    if k == DIGIT {
-        return true;
-    }
-    if k == LETTER {
-        return true;
-    }
-    b == b'.'
-}
-
 // Whether a name may go on with the bytes from `from` to `to`.
 fn name_bytes(text: &[u8], from: usize, to: usize) -> bool
     requires { ⌜ (from ≤ to) × (to ≤ length (now text)) ⌝ }
@@ -376,7 +500,7 @@ fn is_name(text: &[u8], from: usize, to: usize) -> bool
     requires { ⌜ (from < to) × (to ≤ length (now text)) ⌝ }
     ensures { λ r. ⌜ r ≡ (isNameText (slice from to (now (text .entry))) && leb (to - from) maxName) ⌝ }
 {
-    if class(text[from]) != LETTER {
+    if !is_letter(text[from]) {
         return false;
     }
     if MAX_NAME < to - from {
@@ -411,20 +535,19 @@ pub fn next_token(text: &[u8], at: usize) -> Token
     requires { ⌜ at ≤ length (now text) ⌝ }
     ensures { λ r. ⌜ (tokenOf (now (text .entry)) r ≡ tokenAt (now (text .entry)) at) × Placed (now (text .entry)) at r ⌝ }
 {
-    let from = run(text, at, BLANK, BLANK);
+    let from = behind_blanks(text, at);
     if text.len() <= from {
         return Token::End(from);
     }
     let k = class(text[from]);
-    if DIGIT <= k {
-        let to = run(text, from, DIGIT, OTHER);
-        return word(text, from, to);
-    }
     if k == OPENS {
         return Token::Mark(OPENING, from, from + 1);
     }
     if k == CLOSES {
         return Token::Mark(CLOSING, from, from + 1);
+    }
+    if DIGIT <= k {
+        return word(text, from, word_end(text, from));
     }
     Token::Bad(BAD_BYTE, from)
 }
