@@ -42,13 +42,13 @@ fn answer_of(
     k: usize,
     coeffs: &mut [i64],
     keys: &mut [u32],
-    slots: &mut [u32],
+    slots: &mut [u16],
     coeffs2: &mut [i64],
     keys2: &mut [u32],
-    slots2: &mut [u32],
+    slots2: &mut [u16],
     coeffs3: &mut [i64],
     keys3: &mut [u32],
-    slots3: &mut [u32],
+    slots3: &mut [u16],
     reduced: &mut [i64],
 ) -> Answer
     requires { ⌜ Filed (now nodes) (now commands) n × (k < n) ⌝ }
@@ -104,13 +104,13 @@ fn answer_all(
     plains: &mut [bool],
     coeffs: &mut [i64],
     keys: &mut [u32],
-    slots: &mut [u32],
+    slots: &mut [u16],
     coeffs2: &mut [i64],
     keys2: &mut [u32],
-    slots2: &mut [u32],
+    slots2: &mut [u16],
     coeffs3: &mut [i64],
     keys3: &mut [u32],
-    slots3: &mut [u32],
+    slots3: &mut [u16],
     reduced: &mut [i64],
 )
     requires { ⌜ Filed (now nodes) (now commands) n ⌝ }
@@ -157,13 +157,13 @@ fn answer_commands(
 {
     let mut coeffs = [0i64; MAX_ENTRIES];
     let mut keys = [0u32; MAX_ENTRIES];
-    let mut slots = [0u32; SLOTS];
+    let mut slots = [0u16; SLOTS];
     let mut coeffs2 = [0i64; MAX_ENTRIES];
     let mut keys2 = [0u32; MAX_ENTRIES];
-    let mut slots2 = [0u32; SLOTS];
+    let mut slots2 = [0u16; SLOTS];
     let mut coeffs3 = [0i64; MAX_ENTRIES];
     let mut keys3 = [0u32; MAX_ENTRIES];
-    let mut slots3 = [0u32; SLOTS];
+    let mut slots3 = [0u16; SLOTS];
     let mut reduced = [0i64; MAX_ENTRIES];
     answer_all(
         nodes,

@@ -65,10 +65,10 @@ fn unwrap_two(
     conclusion: u32,
     coeffs: &mut [i64],
     keys: &mut [u32],
-    slots: &mut [u32],
+    slots: &mut [u16],
     coeffs2: &mut [i64],
     keys2: &mut [u32],
-    slots2: &mut [u32],
+    slots2: &mut [u16],
 ) -> Two
     requires { ⌜ Node (now nodes) clause × Node (now nodes) conclusion ⌝ }
     requires { ⌜ Room (now coeffs) (now keys) (now slots) ⌝ }
@@ -108,13 +108,13 @@ fn unwrap_three(
     conclusion: u32,
     coeffs: &mut [i64],
     keys: &mut [u32],
-    slots: &mut [u32],
+    slots: &mut [u16],
     coeffs2: &mut [i64],
     keys2: &mut [u32],
-    slots2: &mut [u32],
+    slots2: &mut [u16],
     coeffs3: &mut [i64],
     keys3: &mut [u32],
-    slots3: &mut [u32],
+    slots3: &mut [u16],
 ) -> Three
     requires { ⌜ Node (now nodes) left × Node (now nodes) right × Node (now nodes) conclusion ⌝ }
     requires { ⌜ Room (now coeffs) (now keys) (now slots) ⌝ }
@@ -146,7 +146,7 @@ fn coefficient_at(
     nodes: &[u32],
     coeffs: &[i64],
     keys: &[u32],
-    slots: &[u32],
+    slots: &[u16],
     n: usize,
     key: u32,
 ) -> i64
@@ -163,7 +163,7 @@ fn coefficient_is(
     nodes: &[u32],
     coeffs: &[i64],
     keys: &[u32],
-    slots: &[u32],
+    slots: &[u16],
     n: usize,
     c: i64,
     key: u32,
@@ -183,7 +183,7 @@ fn coefficients_are(
     nodes: &[u32],
     coeffs: &[i64],
     keys: &[u32],
-    slots: &[u32],
+    slots: &[u16],
     n: usize,
     coeffs2: &[i64],
     keys2: &[u32],
@@ -208,7 +208,7 @@ fn zero_faces_zero(
     nodes: &[u32],
     coeffs: &[i64],
     keys: &[u32],
-    slots: &[u32],
+    slots: &[u16],
     n: usize,
     c: i64,
     key: u32,
@@ -228,7 +228,7 @@ fn zeros_face_zeros(
     nodes: &[u32],
     coeffs: &[i64],
     keys: &[u32],
-    slots: &[u32],
+    slots: &[u16],
     n: usize,
     coeffs2: &[i64],
     keys2: &[u32],
@@ -257,12 +257,12 @@ fn sums_agree(
     slack: i64,
     reduced: &[i64],
     keys: &[u32],
-    slots: &[u32],
+    slots: &[u16],
     n: usize,
     constant: i64,
     coeffs2: &[i64],
     keys2: &[u32],
-    slots2: &[u32],
+    slots2: &[u16],
     m: usize,
     names: bool,
 ) -> Answer
@@ -302,12 +302,12 @@ fn added(
     three: Three,
     coeffs: &mut [i64],
     keys: &mut [u32],
-    slots: &mut [u32],
+    slots: &mut [u16],
     coeffs2: &[i64],
     keys2: &[u32],
     coeffs3: &[i64],
     keys3: &[u32],
-    slots3: &[u32],
+    slots3: &[u16],
     reduced: &mut [i64],
 ) -> Answer
     requires { ⌜ Room (now coeffs) (now keys) (now slots) × (maxEntries ≤ length (now reduced)) ⌝ }
@@ -358,13 +358,13 @@ pub fn cp_addition(
     conclusion: &[u32],
     coeffs: &mut [i64],
     keys: &mut [u32],
-    slots: &mut [u32],
+    slots: &mut [u16],
     coeffs2: &mut [i64],
     keys2: &mut [u32],
-    slots2: &mut [u32],
+    slots2: &mut [u16],
     coeffs3: &mut [i64],
     keys3: &mut [u32],
-    slots3: &mut [u32],
+    slots3: &mut [u16],
     reduced: &mut [i64],
 ) -> Answer
     requires { ⌜ Step (now nodes) (now commands) (now premises) (now args) ⌝ }
@@ -439,7 +439,7 @@ fn coefficient_agrees(
     i: usize,
     coeffs2: &[i64],
     keys2: &[u32],
-    slots2: &[u32],
+    slots2: &[u16],
     m: usize,
 ) -> bool
     requires { ⌜ ByIs by ⌝ }
@@ -463,7 +463,7 @@ fn coefficients_agree(
     n: usize,
     coeffs2: &[i64],
     keys2: &[u32],
-    slots2: &[u32],
+    slots2: &[u16],
     m: usize,
 ) -> bool
     requires { ⌜ ByIs by ⌝ }
@@ -488,10 +488,10 @@ fn by_check(
     two: Two,
     coeffs: &[i64],
     keys: &[u32],
-    slots: &[u32],
+    slots: &[u16],
     coeffs2: &[i64],
     keys2: &[u32],
-    slots2: &[u32],
+    slots2: &[u16],
 ) -> Answer
     requires { ⌜ ByIs by × Within maxNumeral (two .constant) × Within maxNumeral (two .constant2) ⌝ }
     requires { ⌜ Keyed (now nodes) (now keys) (now slots) (two .count) × (two .count ≤ length (now coeffs)) × Bounded maxTotal (now coeffs) (two .count) ⌝ }
@@ -573,10 +573,10 @@ pub fn cp_multiplication(
     conclusion: &[u32],
     coeffs: &mut [i64],
     keys: &mut [u32],
-    slots: &mut [u32],
+    slots: &mut [u16],
     coeffs2: &mut [i64],
     keys2: &mut [u32],
-    slots2: &mut [u32],
+    slots2: &mut [u16],
 ) -> Answer
     requires { ⌜ Step (now nodes) (now commands) (now premises) (now args) ⌝ }
     requires { ⌜ AllNodes (now nodes) (now conclusion) ⌝ }
@@ -657,10 +657,10 @@ pub fn cp_division(
     conclusion: &[u32],
     coeffs: &mut [i64],
     keys: &mut [u32],
-    slots: &mut [u32],
+    slots: &mut [u16],
     coeffs2: &mut [i64],
     keys2: &mut [u32],
-    slots2: &mut [u32],
+    slots2: &mut [u16],
 ) -> Answer
     requires { ⌜ Step (now nodes) (now commands) (now premises) (now args) ⌝ }
     requires { ⌜ AllNodes (now nodes) (now conclusion) ⌝ }
@@ -755,10 +755,10 @@ fn capped_check(
     two: Two,
     coeffs: &[i64],
     keys: &[u32],
-    slots: &[u32],
+    slots: &[u16],
     coeffs2: &[i64],
     keys2: &[u32],
-    slots2: &[u32],
+    slots2: &[u16],
 ) -> Answer
     requires { ⌜ Within maxNumeral (two .constant) × Within maxNumeral (two .constant2) ⌝ }
     requires { ⌜ Keyed (now nodes) (now keys) (now slots) (two .count) × (two .count ≤ length (now coeffs)) × Bounded maxTotal (now coeffs) (two .count) ⌝ }
@@ -799,10 +799,10 @@ pub fn cp_saturation(
     conclusion: &[u32],
     coeffs: &mut [i64],
     keys: &mut [u32],
-    slots: &mut [u32],
+    slots: &mut [u16],
     coeffs2: &mut [i64],
     keys2: &mut [u32],
-    slots2: &mut [u32],
+    slots2: &mut [u16],
 ) -> Answer
     requires { ⌜ Step (now nodes) (now commands) (now premises) (now args) ⌝ }
     requires { ⌜ AllNodes (now nodes) (now conclusion) ⌝ }

@@ -62,10 +62,10 @@ fn check_map(
     conclusion: &[u32],
     coeffs: &mut [i64],
     keys: &mut [u32],
-    slots: &mut [u32],
+    slots: &mut [u16],
     coeffs2: &mut [i64],
     keys2: &mut [u32],
-    slots2: &mut [u32],
+    slots2: &mut [u16],
 ) -> Answer
     requires { ⌜ (multiplicationNumber ≤ rule) × (rule < literalNumber) ⌝ }
     requires { ⌜ Step (now nodes) (now commands) (now premises) (now args) ⌝ }
@@ -126,13 +126,13 @@ pub fn check_step(
     k: usize,
     coeffs: &mut [i64],
     keys: &mut [u32],
-    slots: &mut [u32],
+    slots: &mut [u16],
     coeffs2: &mut [i64],
     keys2: &mut [u32],
-    slots2: &mut [u32],
+    slots2: &mut [u16],
     coeffs3: &mut [i64],
     keys3: &mut [u32],
-    slots3: &mut [u32],
+    slots3: &mut [u16],
     reduced: &mut [i64],
 ) -> Answer
     requires { ⌜ Given (now nodes) (now commands) k ⌝ }

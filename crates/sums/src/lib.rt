@@ -84,15 +84,22 @@ fn walk(nodes: &[u32], keys: &[u32], n: usize, key: u32) -> usize
     i
 }
 
+// A slot's word as an index.
+fn wide(x: u16) -> usize
+    ensures { λ r. ⌜ r ≡ x ⌝ }
+{
+    x as usize
+}
+
 // Where a key stands, at once for a name; the count where it is none.
-pub fn find(nodes: &[u32], keys: &[u32], slots: &[u32], n: usize, key: u32) -> usize
+pub fn find(nodes: &[u32], keys: &[u32], slots: &[u16], n: usize, key: u32) -> usize
     requires { ⌜ Node (now nodes) (variableOf key) ⌝ }
     requires { ⌜ Keyed (now nodes) (now keys) (now slots) n ⌝ }
     ensures { λ r. ⌜ FindIs (now (nodes .entry)) (now (keys .entry)) n key r ⌝ }
 {
     let slot = slot_of(nodes, key);
     if slot < NO_SLOT {
-        let place = nodes::wide(slots[slot]);
+        let place = wide(slots[slot]);
         if place < n {
             if slot_of(nodes, keys[place]) == slot {
                 return place;
@@ -118,7 +125,7 @@ fn add_to(coeffs: &mut [i64], i: usize, c: i64)
 fn append(
     coeffs: &mut [i64],
     keys: &mut [u32],
-    slots: &mut [u32],
+    slots: &mut [u16],
     n: usize,
     slot: usize,
     key: u32,
@@ -130,7 +137,7 @@ fn append(
 {
     coeffs[n] = c;
     keys[n] = key;
-    slots[slot] = n as u32;
+    slots[slot] = n as u16;
     n + 1
 }
 
@@ -139,7 +146,7 @@ pub fn put(
     nodes: &[u32],
     coeffs: &mut [i64],
     keys: &mut [u32],
-    slots: &mut [u32],
+    slots: &mut [u16],
     n: usize,
     key: u32,
     c: i64,
@@ -194,7 +201,7 @@ fn read_summands(
     top: usize,
     coeffs: &mut [i64],
     keys: &mut [u32],
-    slots: &mut [u32],
+    slots: &mut [u16],
 ) -> Read
     requires { ⌜ Nodes (now nodes) (now ts) top × (length (now ts) ≤ maxSummands) ⌝ }
     requires { ⌜ Room (now coeffs) (now keys) (now slots) ⌝ }
@@ -237,7 +244,7 @@ pub fn get_pb_hashmap(
     i: u32,
     coeffs: &mut [i64],
     keys: &mut [u32],
-    slots: &mut [u32],
+    slots: &mut [u16],
 ) -> Read
     requires { ⌜ Node (now nodes) i ⌝ }
     requires { ⌜ Room (now coeffs) (now keys) (now slots) ⌝ }
@@ -283,7 +290,7 @@ pub fn unwrap_pseudoboolean_inequality(
     i: u32,
     coeffs: &mut [i64],
     keys: &mut [u32],
-    slots: &mut [u32],
+    slots: &mut [u16],
 ) -> Inequality
     requires { ⌜ Node (now nodes) i ⌝ }
     requires { ⌜ Room (now coeffs) (now keys) (now slots) ⌝ }
@@ -321,7 +328,7 @@ fn key_kept(
     keys: &[u32],
     i: usize,
     keys2: &[u32],
-    slots2: &[u32],
+    slots2: &[u16],
     m: usize,
 ) -> bool
     requires { ⌜ (i < length (now coeffs)) × (i < length (now keys)) × Node (now nodes) (variableOf (getD (now keys) i 0)) ⌝ }
@@ -342,7 +349,7 @@ pub fn assert_pbsum_subset_keys(
     keys: &[u32],
     n: usize,
     keys2: &[u32],
-    slots2: &[u32],
+    slots2: &[u16],
     m: usize,
 ) -> bool
     requires { ⌜ Listed (now nodes) (now coeffs) (now keys) n ⌝ }
@@ -364,11 +371,11 @@ pub fn assert_pbsum_same_keys(
     nodes: &[u32],
     coeffs: &[i64],
     keys: &[u32],
-    slots: &[u32],
+    slots: &[u16],
     n: usize,
     coeffs2: &[i64],
     keys2: &[u32],
-    slots2: &[u32],
+    slots2: &[u16],
     m: usize,
 ) -> bool
     requires { ⌜ Keyed (now nodes) (now keys) (now slots) n × (n ≤ length (now coeffs)) ⌝ }
@@ -390,7 +397,7 @@ pub fn add_pbsums(
     nodes: &[u32],
     coeffs: &mut [i64],
     keys: &mut [u32],
-    slots: &mut [u32],
+    slots: &mut [u16],
     n: usize,
     coeffs2: &[i64],
     keys2: &[u32],
@@ -434,7 +441,7 @@ fn cancel(
     nodes: &[u32],
     coeffs: &[i64],
     keys: &[u32],
-    slots: &[u32],
+    slots: &[u16],
     n: usize,
     i: usize,
 ) -> Cancelled
@@ -469,7 +476,7 @@ pub fn reduce_pbsum(
     nodes: &[u32],
     coeffs: &[i64],
     keys: &[u32],
-    slots: &[u32],
+    slots: &[u16],
     n: usize,
     reduced: &mut [i64],
 ) -> Slack
