@@ -1,6 +1,6 @@
 -- The lines of a file in the reader's tables: each is that of its command, and a cited premise is found by its id.
 use mathlib.Core.Path.{_≡_, refl, sym, ap, ap₂, _∙_}
-use mathlib.Core.Bool.{Bool, true, false, not, _&&_, _||_}
+use mathlib.Core.Bool.{Bool, true, false, not, _&&_, _||_, or-assoc, or-false}
 use mathlib.Core.List.{List, [], _∷_, _++_, map}
 use Prim.Native.Nat.{ℕ, zero, suc, _+_, _≤_, _<_}
 use native.Mathlib.Nat.{not-suc-le-zero}
@@ -163,14 +163,6 @@ module _ {s t w : List ℕ} {n : ℕ} (f : File s t w n) where
       rw (e, cited-hold k (omega arith) marks m (partAt t w k premisesWord) (f .commands .each k h .above)) refl
 
 -- ---- refuted
-or-false : (b : Bool) → (b || false) ≡ b
-or-false true = refl
-or-false false = refl
-
-or-assoc : (a b c : Bool) → ((a || b) || c) ≡ (a || (b || c))
-or-assoc true b c = refl
-or-assoc false b c = refl
-
 refuted-append : (ls : List Line) (l : Line) → refutedBy (ls ++ (l ∷ [])) ≡ (refutedBy ls || (l .holds && contradiction (l .clause)))
 unfolding refutedBy
 refuted-append [] l = or-false (l .holds && contradiction (l .clause))

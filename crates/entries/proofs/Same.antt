@@ -1,15 +1,12 @@
--- Negating entries as structs is negating them by the definitions, and coefficients within a bound below 2^63 can be negated.
+-- Negating entries as structs is negating them by the definitions.
 use mathlib.Core.List.{List, [], _∷_, map}
 use mathlib.Core.Path.{_≡_, refl, ap}
-use Prim.Native.Nat.{ℕ, _<_, _^_}
-use lib.IntN.{ℤ}
-use Rattle.integer.specs.Integers.{Within}
-use Rattle.integer.proofs.Fits.{fits-within, within-neg}
+use Prim.Native.Nat.{ℕ}
 use Rattle.calculus.specs.Normalize.{negEntry, negAll}
 use Rattle.calculus.specs.Sums.{Entry as SumEntry}
 use Rattle.calculus.specs.Terms.{Term}
 use Rattle.entries.specs.declared.Entry.{Entry}
-use Rattle.entries.specs.Entries.{Turns, negated, entryOf}
+use Rattle.entries.specs.Entries.{negated, entryOf}
 
 -- negate_ctv: one entry
 pub negate-entry : (d : ℕ → Term) (e : Entry) → entryOf d (negated e) ≡ negEntry (entryOf d e)
@@ -21,7 +18,3 @@ pub negate-list : (d : ℕ → Term) (es : List Entry) → map (entryOf d) (map 
 unfolding negEntry negAll
 negate-list d [] = refl
 negate-list d (e ∷ es) = ap (λ (E : List SumEntry). entryOf d (negated e) ∷ E) (negate-list d es)
-
--- what a caller shows of a coefficient
-pub turns-within : (k : ℕ) {z : ℤ} → k < 2 ^ 63 → Within k z → Turns z
-turns-within k h w = fits-within h (within-neg w)

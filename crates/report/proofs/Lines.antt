@@ -15,11 +15,11 @@ use Rattle.lexer.proofs.Spoken.{slice-from}
 use Rattle.reader.specs.Commands.{wordAt, kindWord}
 use Rattle.terms.specs.Spans.{stringAt}
 use Rattle.report.specs.Written.{Wrote}
-use Rattle.report.specs.Lines.{nameOf, LineHas, LinesAre, Named, Printable, startText, marksText, linesText}
+use Rattle.report.specs.Lines.{nameOf, LineHas, LinesAre, IdShown, Printable, startText, marksText, linesText}
 use Rattle.report.proofs.Writing.{wrote-as, _⨟_}
 
 -- command k can be written
-pub named : {s w numbers : List ℕ} {plains marks : List Bool} {n : ℕ} → Printable s w numbers plains marks n → (k : ℕ) → k < n → Named s w k
+pub named : {s w numbers : List ℕ} {plains marks : List Bool} {n : ℕ} → Printable s w numbers plains marks n → (k : ℕ) → k < n → IdShown s w k
 named p k h = record {
   room = p .room;
   few = omega (arith, p .few);
@@ -41,7 +41,7 @@ last-kind {n} a b c d e f g h most =
 
 -- ---- parts
 -- a line up to its rule, from the words as they were read
-pub start-parts : {s w : List ℕ} {k : ℕ} → Named s w k → {from to kind : ℕ} → from ≡ getD w (2 * k) 0 → to ≡ getD w (2 * k + 1) 0 → kind ≡ wordAt w k kindWord
+pub start-parts : {s w : List ℕ} {k : ℕ} → IdShown s w k → {from to kind : ℕ} → from ≡ getD w (2 * k) 0 → to ≡ getD w (2 * k + 1) 0 → kind ≡ wordAt w k kindWord
     → startText (stringAt s w k) (nameOf (wordAt w k kindWord)) ≡ bytes "id=" ++ take (to - from) (drop from s) ++ bytes " rule=" ++ nameOf kind
 unfolding stringAt
 start-parts {s} {w} {k} named {from} {to} {kind} p q r =

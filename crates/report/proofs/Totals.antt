@@ -9,11 +9,11 @@ use lib.ListN.{getD, take}
 use lib.Seq.{take-all}
 use borrow.Author.Tests.{eq-eqb, ne-eqb}
 use Rattle.calculus.specs.Marks.{Line, numberOf, noLine, refusedIn}
-use Rattle.report.specs.Lines.{LinesAre, Numbered}
+use Rattle.report.specs.Lines.{LinesAre, Counted}
 use Rattle.report.proofs.Lines.{taken-more}
 
 -- the numbers of the lines
-pub numbered : {s w numbers : List ℕ} {plains marks : List Bool} {n : ℕ} {ls : List Line} → LinesAre s w numbers plains marks n ls → Numbered numbers n ls
+pub numbered : {s w numbers : List ℕ} {plains marks : List Bool} {n : ℕ} {ls : List Line} → LinesAre s w numbers plains marks n ls → Counted numbers n ls
 numbered are = record { count = are .count; each = λ k h. are .each k h .number }
 
 -- one line more
@@ -30,7 +30,7 @@ refused-append (m ∷ ls) l = go (refusedIn ls) (cond (eqb (numberOf (l .answer)
     go y z true e = e
     go y z false e = omega arith
 
-module _ {numbers : List ℕ} {n : ℕ} {ls : List Line} (are : Numbered numbers n ls) where
+module _ {numbers : List ℕ} {n : ℕ} {ls : List Line} (are : Counted numbers n ls) where
   more : {k : ℕ} → k < n → refusedIn (take (k + 1) ls) ≡ refusedIn (take k ls) + cond (eqb (getD numbers k 0) 0) 0 1
   more {k} h =
       ap refusedIn (taken-more ls k (omega (arith, are .count)))

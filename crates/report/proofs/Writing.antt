@@ -99,7 +99,3 @@ wrote-rest {d} {e} {s} {at} {r} w =
     ap (λ (x : List ℕ). drop r x) (w .same)
     ∙ drop-at (take at d ++ s) (drop (at + length s) d) r (head-long d at s i ∙ sym (w .next))
     ∙ ap (λ (k : ℕ). drop k d) (sym (w .next))
-
--- and so is its length
-pub wrote-size : {d e s : List ℕ} {at r : ℕ} → Wrote d at s e r → length e ≡ length d
-wrote-size w = w .size

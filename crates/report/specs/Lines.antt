@@ -35,13 +35,13 @@ pub record LinesAre (s w numbers : List ℕ) (plains marks : List Bool) (n : ℕ
       → LineHas (getD ls k noLine) (stringAt s w k) (wordAt w k kindWord) (getD numbers k 0) (getD plains k false) (getD marks k false)
 
 -- the answers of the lines ls are the first n numbers
-pub record Numbered (numbers : List ℕ) (n : ℕ) (ls : List Line) : Type 0 where
+pub record Counted (numbers : List ℕ) (n : ℕ) (ls : List Line) : Type 0 where
   pub count : length ls ≡ n
   pub each : (k : ℕ) → k < n → numberOf (getD ls k noLine .answer) ≡ getD numbers k 0
 
 -- ---- what can be written
 -- command k: its id is a name in the text, its kind is one of nine
-pub record Named (s w : List ℕ) (k : ℕ) : Type 0 where
+pub record IdShown (s w : List ℕ) (k : ℕ) : Type 0 where
   pub room : allWords ≤ length w
   pub few : k < maxCommands
   pub up : getD w (2 * k) 0 ≤ getD w (2 * k + 1) 0

@@ -13,7 +13,7 @@ ghost use Rattle.calculus.specs.Writing.{maxCommands};
 ghost use Rattle.reader.specs.Commands.{wordAt, kindWord};
 ghost use Rattle.terms.specs.Spans.{stringAt};
 ghost use Rattle.report.specs.Written.{Wrote};
-ghost use Rattle.report.specs.Lines.{nameOf, LineHas, LinesAre, Numbered, Named, Printable, startText, marksText, linesText, yesRoom, ruleRoom, startRoom, marksRoom, lineRoom, totalsRoom};
+ghost use Rattle.report.specs.Lines.{nameOf, LineHas, LinesAre, Counted, IdShown, Printable, startText, marksText, linesText, yesRoom, ruleRoom, startRoom, marksRoom, lineRoom, totalsRoom};
 
 // The digit 0; the others follow it.
 const ZERO: usize = 48;
@@ -95,7 +95,7 @@ fn append_rule(report: &mut [u8], at: usize, kind: usize) -> usize
 // ---- lines
 // Writes the line of command k up to its rule.
 fn write_start(report: &mut [u8], at: usize, text: &[u8], commands: &[u32], k: usize) -> usize
-    requires { ⌜ Named (now text) (now commands) k ⌝ }
+    requires { ⌜ IdShown (now text) (now commands) k ⌝ }
     requires { ⌜ at + startRoom ≤ length (now report) ⌝ }
     ensures { λ r. ⌜ Wrote (now (report .entry)) at (startText (stringAt (now (text .entry)) (now (commands .entry)) k) (nameOf (wordAt (now (commands .entry)) k kindWord))) (now (report .exit)) r ⌝ }
     ensures { λ r. ⌜ r ≤ at + startRoom ⌝ }
@@ -133,7 +133,7 @@ fn write_line(
     plain: bool,
     holds: bool,
 ) -> usize
-    requires { ⌜ Named (now text) (now commands) k ⌝ }
+    requires { ⌜ IdShown (now text) (now commands) k ⌝ }
     requires { ⌜ at + lineRoom ≤ length (now report) ⌝ }
     ensures { λ r. ⌜ ((l : Line) → LineHas l (stringAt (now (text .entry)) (now (commands .entry)) k) (wordAt (now (commands .entry)) k kindWord) number plain holds → Wrote (now (report .entry)) at (lineText l ++ (10 ∷ [])) (now (report .exit)) r) ⌝ }
     ensures { λ r. ⌜ r ≤ at + lineRoom ⌝ }
@@ -181,7 +181,7 @@ fn write_lines(
 // How many of the first n answers are not 0.
 fn count_refused(numbers: &[u8], n: usize) -> usize
     requires { ⌜ n ≤ length (now numbers) ⌝ }
-    ensures { λ r. ⌜ ((ls : List Line) → Numbered (now (numbers .entry)) n ls → refusedIn ls ≡ r) ⌝ }
+    ensures { λ r. ⌜ ((ls : List Line) → Counted (now (numbers .entry)) n ls → refusedIn ls ≡ r) ⌝ }
     ensures { λ r. ⌜ r ≤ n ⌝ }
 {
     let mut k = 0;

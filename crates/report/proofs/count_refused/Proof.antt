@@ -6,13 +6,13 @@ use Prim.Native.Nat.{_≤_, _-_}
 use native.Mathlib.Omega.{arith}
 use lib.ListN.{take}
 use Rattle.calculus.specs.Marks.{Line, refusedIn}
-use Rattle.report.specs.Lines.{Numbered}
+use Rattle.report.specs.Lines.{Counted}
 use Rattle.report.proofs.Totals.{refused-none, refused-one, refused-same, refused-all}
 use Rattle.report.proofs.count_refused.Statement.{statement}
 use Rattle.report.proofs.count_refused.Tie as tie
 
 abbrev Inv-loop : tie.InvT-loop
-Inv-loop numbers n k₀ refused₀ k refused = (k ≤ n) × (refused ≤ k) × ((ls : List Line) → Numbered numbers n ls → refusedIn (take k ls) ≡ refused)
+Inv-loop numbers n k₀ refused₀ k refused = (k ≤ n) × (refused ≤ k) × ((ls : List Line) → Counted numbers n ls → refusedIn (take k ls) ≡ refused)
 
 abbrev μ-loop : tie.MeasureT-loop
 μ-loop numbers n k₀ refused₀ k refused = n - k
