@@ -20,7 +20,7 @@ extern "C" {
 }
 
 const NODE_WORDS: usize = 16384;
-const COMMAND_WORDS: usize = 4608;
+const COMMAND_WORDS: usize = 6144;
 const ANSWER_WORDS: usize = 3;
 
 // How the tables are laid out.

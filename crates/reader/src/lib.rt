@@ -24,7 +24,9 @@ use nodes::PLUS_KIND;
 use nodes::put_children;
 use nodes::put_node;
 use terms::Items;
+use terms::NAME_WORDS;
 use terms::Read;
+use terms::enter;
 use terms::place_of;
 use terms::read_items;
 use terms::read_term;
@@ -38,7 +40,8 @@ ghost use Rattle.calculus.specs.Report.{minTable};
 ghost use Rattle.calculus.specs.Writing.{maxText, maxNodes, maxCommands};
 ghost use Rattle.heads.specs.Heads.{rulesOf, RuleIn};
 ghost use Rattle.nodes.specs.Nodes.{childrenAt, decode, Table};
-ghost use Rattle.reader.specs.Commands.{allWords, pair, Put};
+ghost use Rattle.terms.specs.Index.{Fresh, Indexed};
+ghost use Rattle.reader.specs.Commands.{idIndex, allWords, pair, Put};
 ghost use Rattle.reader.specs.Reading.{clauseAt, ruleFrom, citedFrom, endingAt, Ready, Ids, Headed, NewId, PremiseAt, ReadSection, ReadOne, ReadPremises, ReadCommand, ReadsFile};
 
 // The longest text.
@@ -47,10 +50,13 @@ const MAX_TEXT: usize = 32768;
 // The words of the lent tables.
 pub const NODE_WORDS: usize = 16384;
 
-pub const COMMAND_WORDS: usize = 4608;
+pub const COMMAND_WORDS: usize = 6144;
 
 // The words of 512 ids, before those of the commands.
 pub const ID_WORDS: usize = 1024;
+
+// Where the index of the ids begins, behind the words of 512 commands.
+const ID_INDEX: usize = 4608;
 
 // What a longer text is refused by.
 const TOO_LONG: u8 = 2;
@@ -65,7 +71,7 @@ fn new_id(text: &[u8], at: usize, commands: &[u32], k: usize) -> NameAt
 {
     match name_at(text, at) {
         NameAt::Found(from, to) => {
-            if place_of(text, commands, k, from, to) < k {
+            if place_of(text, commands, ID_INDEX, k, from, to) < k {
                 return NameAt::Other(UNDEFINED, from);
             }
             NameAt::Found(from, to)
@@ -90,7 +96,7 @@ fn premise_at(text: &[u8], at: usize, commands: &[u32], k: usize, n: usize) -> P
             if MAX_NODES <= n {
                 return Premise::Not(TOO_MANY, from);
             }
-            let j = place_of(text, commands, k, from, to);
+            let j = place_of(text, commands, ID_INDEX, k, from, to);
             if j < k {
                 return Premise::Cites(j, to);
             }
@@ -245,8 +251,9 @@ fn put_pair(words: &mut [u32], i: usize, a: usize, b: usize)
     words[i + 1] = b as u32;
 }
 
-// Writes command k: its id, its kind, and its clause, premises and arguments by their first child words and their counts.
+// Writes command k: its id, its kind, and its clause, premises and arguments by their first child words and their counts. The id goes into the index.
 fn put_command(
+    text: &[u8],
     commands: &mut [u32],
     k: usize,
     from: usize,
@@ -259,8 +266,8 @@ fn put_command(
     arguments: usize,
     given: usize,
 )
-    requires { ⌜ (allWords ≤ length (now commands)) × (k < maxCommands) × (from ≤ maxText) × (to ≤ maxText) × (clause ≤ maxText) × (terms ≤ maxText) × (premises ≤ maxText) × (cited ≤ maxText) × (arguments ≤ maxText) × (given ≤ maxText) ⌝ }
-    ensures { λ _. ⌜ Put (now (commands .entry)) (now (commands .exit)) k from to kind clause terms premises cited arguments given ⌝ }
+    requires { ⌜ (allWords ≤ length (now commands)) × (k < maxCommands) × (from ≤ maxText) × (to ≤ maxText) × (clause ≤ maxText) × (terms ≤ maxText) × (premises ≤ maxText) × (cited ≤ maxText) × (arguments ≤ maxText) × (given ≤ maxText) × (from ≤ to) × (to ≤ length (now text)) × Indexed (now text) (now commands) idIndex k × Fresh (now text) (now commands) k (slice from to (now text)) ⌝ }
+    ensures { λ _. ⌜ Put (now (commands .entry)) (now (commands .exit)) k from to kind clause terms premises cited arguments given × Indexed (now (text .entry)) (now (commands .exit)) idIndex (k + 1) ⌝ }
 {
     let i = ID_WORDS + 7 * k;
     put_pair(commands, 2 * k, from, to);
@@ -268,6 +275,7 @@ fn put_command(
     put_pair(commands, i + 1, clause, terms);
     put_pair(commands, i + 3, premises, cited);
     put_pair(commands, i + 5, arguments, given);
+    enter(text, commands, ID_INDEX, k, from, to);
 }
 
 // Behind the clause of the step with the id from..to: :rule R [:premises (ID+)] [:args (term+)])
@@ -286,7 +294,7 @@ fn read_ending(
     clause: usize,
     terms: usize,
 ) -> Read
-    requires { ⌜ Ready (now text) (now nodes) (now pending) (now names) at n c × Ids (now text) (now commands) k × (k < maxCommands) × Headed (now text) (now nodes) n c from to clause terms ⌝ }
+    requires { ⌜ Ready (now text) (now nodes) (now pending) (now names) at n c × Ids (now text) (now commands) k × (k < maxCommands) × Headed (now text) (now nodes) (now commands) k n c from to clause terms ⌝ }
     ensures { λ r. ⌜ ReadCommand (λ cs. endingAt cs (now (text .entry)) at n (slice from to (now (text .entry))) (map (decode (now (text .entry)) (now (nodes .entry))) (childrenAt (now (nodes .entry)) clause terms))) (now (text .entry)) (now (nodes .entry)) (now (nodes .exit)) (now (commands .entry)) (now (commands .exit)) (now (names .exit)) at n c k r ⌝ }
 {
     match rule_from(text, at) {
@@ -307,6 +315,7 @@ fn read_ending(
                     Step::Off(e, b) => Read::Refused(e, b),
                     Step::Go(end) => {
                         put_command(
+                            text,
                             commands,
                             k,
                             from,
@@ -387,7 +396,20 @@ fn read_assumption(
             Read::Made(t, m, first) => match expect(text, t, CLOSING) {
                 Step::Off(e, b) => Read::Refused(e, b),
                 Step::Go(end) => {
-                    put_command(commands, k, from, to, ASSUMPTION, first, 1, 0, 0, 0, 0);
+                    put_command(
+                        text,
+                        commands,
+                        k,
+                        from,
+                        to,
+                        ASSUMPTION,
+                        first,
+                        1,
+                        0,
+                        0,
+                        0,
+                        0,
+                    );
                     Read::Made(end, m, first + 1)
                 }
             },
@@ -430,7 +452,7 @@ fn read_commands(text: &[u8], nodes: &mut [u32], commands: &mut [u32]) -> Whole
     ensures { λ r. ⌜ ReadsFile (now (text .entry)) (now (nodes .entry)) (now (nodes .exit)) (now (commands .entry)) (now (commands .exit)) r ⌝ }
 {
     let mut pending = [0u32; 4096];
-    let mut names = [0u32; 8193];
+    let mut names = [0u32; NAME_WORDS];
     let mut at = 0;
     let mut k = 0;
     let mut n = 0;
@@ -468,7 +490,7 @@ fn read_commands(text: &[u8], nodes: &mut [u32], commands: &mut [u32]) -> Whole
     }
 }
 
-// Reads a text into the lent tables: at least 16,384 words of nodes and 4,608 words of commands. Whatever stands there before is not read.
+// Reads a text into the lent tables: at least 16,384 words of nodes and 6,144 words of commands. Whatever stands there before is not read.
 pub fn read_file(text: &[u8], nodes: &mut [u32], commands: &mut [u32]) -> Whole
     ensures { λ r. ⌜ ReadsFile (now (text .entry)) (now (nodes .entry)) (now (nodes .exit)) (now (commands .entry)) (now (commands .exit)) r ⌝ }
 {

@@ -19,48 +19,94 @@ ghost use Rattle.calculus.specs.Writing.{maxText, maxNodes};
 ghost use Rattle.lexer.specs.Tokens.{place};
 ghost use Rattle.nodes.specs.Nodes.{put, plusKind, minusKind, nameKind};
 ghost use Rattle.terms.specs.Spans.{Spans, strings};
-ghost use Rattle.terms.specs.Names.{countWord, countOf, numberOf, namesWith};
+ghost use Rattle.terms.specs.Index.{hashes, hashOf, linkWord, Indexed, entered};
+ghost use Rattle.terms.specs.Names.{nameIndex, nameWords, countOf, numberOf, namesWith};
 ghost use Rattle.terms.specs.Reading.{Ready, ReadTerm, ReadItems};
 
 // The word that counts the names, behind the words of 4,096 names.
 const COUNT: usize = 8192;
 
-// The place of the bytes from..to among the first count strings, or count: a plain walk, lengths first.
-pub fn place_of(text: &[u8], spans: &[u32], count: usize, from: usize, to: usize) -> usize
-    requires { ⌜ Spans (now text) (now spans) count × (count ≤ maxNodes) × (from ≤ to) × (to ≤ length (now text)) ⌝ }
+// The number of hashes, and so of the words before the links of an index.
+const HASHES: usize = 1024;
+
+// Where the index of the names begins, behind their count.
+const NAME_INDEX: usize = 8193;
+
+// The words of the names: 4,096 spans, their count, and their index.
+pub const NAME_WORDS: usize = 13313;
+
+// The hash of the bytes from..to.
+fn hash(text: &[u8], from: usize, to: usize) -> usize
+    requires { ⌜ (from ≤ to) × (to ≤ length (now text)) ⌝ }
+    ensures { λ r. ⌜ (r ≡ hashOf (slice from to (now (text .entry)))) × (r < hashes) ⌝ }
+{
+    let mut h = 0;
+    let mut i = from;
+    while i < to {
+        h = (h * 37 + text[i] as usize) % HASHES;
+        i += 1;
+    }
+    h
+}
+
+// The place of the bytes from..to among the first count strings, or count: from the latest string with their hash back along the index, which begins at word base.
+pub fn place_of(
+    text: &[u8],
+    spans: &[u32],
+    base: usize,
+    count: usize,
+    from: usize,
+    to: usize,
+) -> usize
+    requires { ⌜ Spans (now text) (now spans) count × Indexed (now text) (now spans) base count × (from ≤ to) × (to ≤ length (now text)) ⌝ }
     ensures { λ r. ⌜ (r ≡ place (strings (now (text .entry)) (now (spans .entry)) 0 count) (slice from to (now (text .entry)))) × (r ≤ count) ⌝ }
 {
-    let mut k = 0;
-    while k < count {
+    let h = hash(text, from, to);
+    let mut bound = count;
+    let mut k = wide(spans[base + h]);
+    while k < bound {
         let a = wide(spans[2 * k]);
         let b = wide(spans[2 * k + 1]);
         if same(text, a, b, text, from, to) {
             return k;
         }
-        k += 1;
+        bound = k;
+        k = wide(spans[base + HASHES + k]);
     }
-    k
+    count
+}
+
+// Puts string number count, the bytes from..to, into the index that begins at word base.
+pub fn enter(text: &[u8], spans: &mut [u32], base: usize, count: usize, from: usize, to: usize)
+    requires { ⌜ (linkWord base count < length (now spans)) × (count ≤ maxNodes) × (from ≤ to) × (to ≤ length (now text)) ⌝ }
+    ensures { λ _. ⌜ now (spans .exit) ≡ entered (now (text .entry)) (now (spans .entry)) base count from to ⌝ }
+{
+    let h = hash(text, from, to);
+    let latest = spans[base + h];
+    spans[base + HASHES + count] = latest;
+    spans[base + h] = count as u32;
 }
 
 // The number of the name from..to; a new name is put behind the others.
 fn number_of(text: &[u8], names: &mut [u32], from: usize, to: usize) -> usize
-    requires { ⌜ Spans (now text) (now names) (countOf (now names)) × (countOf (now names) < maxNodes) × (countWord < length (now names)) × (length (now text) ≤ maxText) × (from ≤ to) × (to ≤ length (now text)) ⌝ }
+    requires { ⌜ Spans (now text) (now names) (countOf (now names)) × (countOf (now names) < maxNodes) × (nameWords ≤ length (now names)) × (length (now text) ≤ maxText) × (from ≤ to) × (to ≤ length (now text)) × Indexed (now text) (now names) nameIndex (countOf (now names)) ⌝ }
     ensures { λ r. ⌜ (r ≡ numberOf (now (text .entry)) (now (names .entry)) from to) × (r < maxNodes) × (now (names .exit) ≡ namesWith (now (text .entry)) (now (names .entry)) from to) ⌝ }
 {
     let count = wide(names[COUNT]);
-    let k = place_of(text, names, count, from, to);
+    let k = place_of(text, names, NAME_INDEX, count, from, to);
     if k < count {
         return k;
     }
     names[2 * count] = from as u32;
     names[2 * count + 1] = to as u32;
     names[COUNT] = (count + 1) as u32;
+    enter(text, names, NAME_INDEX, count, from, to);
     k
 }
 
 // Writes node n, the variable with the name from..to.
 fn put_variable(text: &[u8], nodes: &mut [u32], names: &mut [u32], n: usize, from: usize, to: usize)
-    requires { ⌜ (minTable ≤ length (now nodes)) × (n < maxNodes) × Spans (now text) (now names) (countOf (now names)) × (countOf (now names) ≤ n) × (countWord < length (now names)) × (length (now text) ≤ maxText) × (from ≤ to) × (to ≤ length (now text)) ⌝ }
+    requires { ⌜ (minTable ≤ length (now nodes)) × (n < maxNodes) × Spans (now text) (now names) (countOf (now names)) × (countOf (now names) ≤ n) × (nameWords ≤ length (now names)) × (length (now text) ≤ maxText) × (from ≤ to) × (to ≤ length (now text)) × Indexed (now text) (now names) nameIndex (countOf (now names)) ⌝ }
     ensures { λ _. ⌜ (now (nodes .exit) ≡ put (now (nodes .entry)) n (nameKind + numberOf (now (text .entry)) (now (names .entry)) from to) from to) × (now (names .exit) ≡ namesWith (now (text .entry)) (now (names .entry)) from to) ⌝ }
 {
     let k = number_of(text, names, from, to);
