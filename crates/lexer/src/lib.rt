@@ -3,13 +3,13 @@ ghost use mathlib.Core.Path.{_≡_};
 ghost use mathlib.Core.Bool.{true, false, _&&_};
 ghost use mathlib.Core.List.{List, [], _∷_};
 ghost use Prim.Native.Nat.{ℕ, suc, _+_, _-_, _≤_, _<_};
-ghost use lib.ListN.{length, drop};
+ghost use lib.ListN.{length, getD, drop};
 ghost use lib.Dec.{leb};
 ghost use lib.Seq.{slice};
 ghost use Rattle.calculus.specs.Bytes.{byte, classOf, isBlank, isDigit, isLetter, inName, inWord};
 ghost use Rattle.calculus.specs.Terms.{sameName};
 ghost use Rattle.calculus.specs.Words.{ok, bind, span, numeral, numeralFirst, numeralOf, magnitude, nameBytes, isNameText, judged, wordOf, tokenAt, maxName};
-ghost use Rattle.lexer.specs.Tokens.{tokenOf, Placed, small, numberFrom, place, cut, Cuts, fixedTexts, renumber};
+ghost use Rattle.lexer.specs.Tokens.{tokenOf, Placed, WordFrom, small, numberFrom, place, cut, Cuts, fixedTexts, renumber};
 
 // The classes of bytes; those from DIGIT on are the bytes of words.
 const OPENS: u8 = 2;
@@ -247,6 +247,31 @@ fn word_end(text: &[u8], at: usize) -> usize
         i += 1;
     }
     i
+}
+
+// The end of the run of bytes from `at` on that a name may have.
+fn name_end(text: &[u8], at: usize) -> usize
+    requires { ⌜ at ≤ length (now text) ⌝ }
+    ensures { λ r. ⌜ (r ≡ at + span inName (drop at (now (text .entry)))) × (r ≤ length (now (text .entry))) ⌝ }
+{
+    let mut i = at;
+    while i < text.len() {
+        if !in_name(text[i]) {
+            return i;
+        }
+        i += 1;
+    }
+    i
+}
+
+// Whether no word goes on at `at`.
+fn ends_word(text: &[u8], at: usize) -> bool
+    ensures { λ r. ⌜ (r ≡ true → span inWord (drop at (now (text .entry))) ≡ 0) ⌝ }
+{
+    if text.len() <= at {
+        return true;
+    }
+    !in_word(text[at])
 }
 
 // A word or a bracket and where it begins and ends; the text's end; or a refusal and its byte.
@@ -509,6 +534,25 @@ fn is_name(text: &[u8], from: usize, to: usize) -> bool
     name_bytes(text, from + 1, to)
 }
 
+// The word from `from` to `to`, which is no numeral; `named` says whether it is a name.
+fn other_word(text: &[u8], from: usize, to: usize, named: bool) -> Token
+    requires { ⌜ (from < to) × (to ≤ length (now text)) ⌝ }
+    requires { ⌜ (false ≡ numeralFirst (slice from to (now text))) × (named ≡ (isNameText (slice from to (now text)) && leb (to - from) maxName)) ⌝ }
+    ensures { λ r. ⌜ (tokenOf (now (text .entry)) r ≡ judged from to (wordOf (slice from to (now (text .entry))))) × Placed (now (text .entry)) from r ⌝ }
+{
+    let k = fixed(text, from, to);
+    if k < OPERATORS {
+        return Token::Op(k as u8, from, to);
+    }
+    if k < WORDS {
+        return Token::Mark((k - BEFORE_MARKS) as u8, from, to);
+    }
+    if named {
+        return Token::Name(from, to);
+    }
+    Token::Bad(BAD_WORD, from)
+}
+
 // The word from `from` to `to`.
 fn word(text: &[u8], from: usize, to: usize) -> Token
     requires { ⌜ (from < to) × (to ≤ length (now text)) ⌝ }
@@ -517,17 +561,19 @@ fn word(text: &[u8], from: usize, to: usize) -> Token
     if numeral_first(text, from, to) {
         return numeral(text, from, to);
     }
-    let k = fixed(text, from, to);
-    if k < OPERATORS {
-        return Token::Op(k as u8, from, to);
+    other_word(text, from, to, is_name(text, from, to))
+}
+
+// The word that begins with the letter at `from`: in one run, where all of its bytes may stand in a name.
+fn name_word(text: &[u8], from: usize) -> Token
+    requires { ⌜ (from < length (now text)) × (isLetter (getD (now text) from 0) ≡ true) ⌝ }
+    ensures { λ r. ⌜ WordFrom (now (text .entry)) from r ⌝ }
+{
+    let to = name_end(text, from + 1);
+    if ends_word(text, to) {
+        return other_word(text, from, to, to - from <= MAX_NAME);
     }
-    if k < WORDS {
-        return Token::Mark((k - BEFORE_MARKS) as u8, from, to);
-    }
-    if is_name(text, from, to) {
-        return Token::Name(from, to);
-    }
-    Token::Bad(BAD_WORD, from)
+    word(text, from, word_end(text, from))
 }
 
 // The token at or after byte `at`.
@@ -545,6 +591,9 @@ pub fn next_token(text: &[u8], at: usize) -> Token
     }
     if k == CLOSES {
         return Token::Mark(CLOSING, from, from + 1);
+    }
+    if k == LETTER {
+        return name_word(text, from);
     }
     if DIGIT <= k {
         return word(text, from, word_end(text, from));

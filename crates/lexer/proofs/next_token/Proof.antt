@@ -1,7 +1,8 @@
 -- `lexer::next_token` owes the token behind the blanks, and its place: by the class of its first byte. Assumes nothing.
+use Rattle.lexer.proofs.Named.{letter-classed}
 use Rattle.lexer.proofs.Spoken.{token-end, token-word, token-open, token-close, token-bad, word-progress, placed-from}
 use borrow.Author.Needs.{needs}
-use mathlib.Core.Path.{_∙_}
+use mathlib.Core.Path.{refl, _∙_}
 use native.Mathlib.Omega.{arith}
 use Rattle.lexer.proofs.next_token.Statement.{statement}
 use Rattle.lexer.proofs.next_token.Tie as tie
@@ -30,17 +31,23 @@ add-t10 c = search needs
 returns-3 : tie.Need-returns-3
 returns-3 c = (token-close ((c .before .before .before .before .before .before .before .args) .text .now) ((c .before .before .before .before .before .before .before .args) .at) ((c .before .before .before .before .before .behind-blanks) .result) ((c .before .before .before .before .before .behind-blanks) .ensures .0) _ ((c .before .before .class) .ensures) (search needs) ((c .if3) .taken), search needs)
 
+name-word-requires : tie.Need-name-word-requires
+name-word-requires c κs = (search needs, letter-classed _ _ ((c .before .before .before .class) .ensures) ((c .if4) .taken))
+
+returns-4 : tie.Need-returns-4
+returns-4 c = ((c .name-word) .ensures _ refl .0 ∙ token-word ((c .before .before .before .before .before .before .before .before .before .args) .text .now) ((c .before .before .before .before .before .before .before .before .before .args) .at) ((c .before .before .before .before .before .before .before .behind-blanks) .result) ((c .before .before .before .before .before .before .before .behind-blanks) .ensures .0) ((c .before .before .before .before .class) .result) _ ((c .before .before .before .before .class) .ensures) refl (search needs) (omega (arith, (c .before .if4) .taken)), placed-from ((c .before .before .before .before .before .before .before .before .before .args) .text .now) ((c .before .before .before .before .before .before .before .before .before .args) .at) ((c .before .before .before .before .before .before .before .behind-blanks) .result) (omega (arith, (c .before .before .before .before .before .before .before .behind-blanks) .ensures .0)) ((c .name-word) .result) ((c .name-word) .ensures _ refl .1))
+
 word-end-requires : tie.Need-word-end-requires
 word-end-requires c κs = search needs
 
 word-requires : tie.Need-word-requires
-word-requires c κs = (word-progress ((c .before .before .before .before .before .before .before .before .before .args) .text .now) _ ((c .before .before .before .before .class) .result) _ ((c .before .before .before .before .class) .ensures) (search needs) ((c .before .if4) .taken) ((c .word-end) .ensures .0), (c .word-end) .ensures .1)
-
-returns-4 : tie.Need-returns-4
-returns-4 c = ((c .word) .ensures .0 ∙ token-word ((c .before .before .before .before .before .before .before .before .before .before .args) .text .now) ((c .before .before .before .before .before .before .before .before .before .before .args) .at) ((c .before .before .before .before .before .before .before .before .behind-blanks) .result) ((c .before .before .before .before .before .before .before .before .behind-blanks) .ensures .0) ((c .before .before .before .before .before .class) .result) _ ((c .before .before .before .before .before .class) .ensures) ((c .before .word-end) .ensures .0) (search needs) ((c .before .before .if4) .taken), placed-from ((c .before .before .before .before .before .before .before .before .before .before .args) .text .now) ((c .before .before .before .before .before .before .before .before .before .before .args) .at) ((c .before .before .before .before .before .before .before .before .behind-blanks) .result) (omega (arith, (c .before .before .before .before .before .before .before .before .behind-blanks) .ensures .0)) ((c .word) .result) ((c .word) .ensures .1))
+word-requires c κs = (word-progress ((c .before .before .before .before .before .before .before .before .before .before .args) .text .now) _ ((c .before .before .before .before .before .class) .result) _ ((c .before .before .before .before .before .class) .ensures) (search needs) ((c .before .if5) .taken) ((c .word-end) .ensures .0), (c .word-end) .ensures .1)
 
 returns-5 : tie.Need-returns-5
-returns-5 c = (token-bad ((c .before .before .before .before .before .before .before .before .args) .text .now) ((c .before .before .before .before .before .before .before .before .args) .at) ((c .before .before .before .before .before .before .behind-blanks) .result) ((c .before .before .before .before .before .before .behind-blanks) .ensures .0) _ ((c .before .before .before .class) .ensures) (search needs) ((c .if4) .left) ((c .before .before .if2) .left) ((c .before .if3) .left), search needs)
+returns-5 c = ((c .word) .ensures .0 ∙ token-word ((c .before .before .before .before .before .before .before .before .before .before .before .args) .text .now) ((c .before .before .before .before .before .before .before .before .before .before .before .args) .at) ((c .before .before .before .before .before .before .before .before .before .behind-blanks) .result) ((c .before .before .before .before .before .before .before .before .before .behind-blanks) .ensures .0) ((c .before .before .before .before .before .before .class) .result) _ ((c .before .before .before .before .before .before .class) .ensures) ((c .before .word-end) .ensures .0) (search needs) ((c .before .before .if5) .taken), placed-from ((c .before .before .before .before .before .before .before .before .before .before .before .args) .text .now) ((c .before .before .before .before .before .before .before .before .before .before .before .args) .at) ((c .before .before .before .before .before .before .before .before .before .behind-blanks) .result) (omega (arith, (c .before .before .before .before .before .before .before .before .before .behind-blanks) .ensures .0)) ((c .word) .result) ((c .word) .ensures .1))
+
+returns-6 : tie.Need-returns-6
+returns-6 c = (token-bad ((c .before .before .before .before .before .before .before .before .before .args) .text .now) ((c .before .before .before .before .before .before .before .before .before .args) .at) ((c .before .before .before .before .before .before .before .behind-blanks) .result) ((c .before .before .before .before .before .before .before .behind-blanks) .ensures .0) _ ((c .before .before .before .before .class) .ensures) (search needs) ((c .if5) .left) ((c .before .before .before .if2) .left) ((c .before .before .if3) .left), search needs)
 
 pub next-token-spec : {M : Type 1} → statement M
-next-token-spec = tie.close (tie.spec behind-blanks-requires returns shared-slice-read-class class-requires add-t9 returns-2 add-t10 returns-3 word-end-requires word-requires returns-4 returns-5)
+next-token-spec = tie.close (tie.spec behind-blanks-requires returns shared-slice-read-class class-requires add-t9 returns-2 add-t10 returns-3 name-word-requires returns-4 word-end-requires word-requires returns-5 returns-6)
