@@ -1,0 +1,218 @@
+//! Counts of a run, and what a long run has to have reached.
+
+use crate::brute::Outcome;
+use crate::report::{Line, Report};
+use crate::rules::{Rule, ANSWERS, RULES};
+use crate::texts;
+use std::fmt::Write;
+
+/// From so many texts on a run has to have reached everything that can be reached.
+pub const LONG: u64 = 50_000;
+
+const RULES_AND_ASSUME: usize = RULES.len() + 1;
+
+/// Counts of answers, from 0 to 41.
+struct Answers([u64; ANSWERS]);
+
+impl Default for Answers {
+    fn default() -> Answers {
+        Answers([0; ANSWERS])
+    }
+}
+
+/// What was counted.
+#[derive(Default)]
+pub struct Count {
+    pub texts: u64,
+    pub steps: u64,
+    /// Lines with `holds=yes` that were tried with all assignments.
+    pub tried: u64,
+    kinds: [u64; texts::KINDS.len()],
+    answers: [Answers; RULES_AND_ASSUME],
+    refusals: [u64; 9],
+    plain: [u64; RULES_AND_ASSUME],
+    holds: [u64; RULES_AND_ASSUME],
+    read: u64,
+    refuted: u64,
+    untried: u64,
+    tried_steps: u64,
+    tried_with_model: u64,
+    tried_steps_with_model: u64,
+    tried_texts: u64,
+    tried_refuted: u64,
+}
+
+impl Count {
+    /// Count a text of a kind.
+    pub fn text(&mut self, kind: usize) {
+        self.texts += 1;
+        self.kinds[kind] += 1;
+    }
+
+    /// Count tables that were too small.
+    pub fn too_small(&mut self) {
+        self.refusals[1] += 1;
+    }
+
+    /// Count what a report says.
+    pub fn report(&mut self, report: &Report) {
+        match report {
+            Report::Refused(number) => self.refusals[usize::from(*number).min(8)] += 1,
+            Report::Read(lines, refuted) => {
+                self.read += 1;
+                self.refuted += u64::from(*refuted);
+                lines.iter().for_each(|line| self.line(line));
+            }
+        }
+    }
+
+    fn line(&mut self, line: &Line) {
+        let rule = line.rule as usize;
+        self.steps += u64::from(line.rule != Rule::Assume);
+        self.answers[rule].0[usize::from(line.answer).min(ANSWERS - 1)] += 1;
+        self.plain[rule] += u64::from(line.plain);
+        self.holds[rule] += u64::from(line.holds);
+    }
+
+    /// Count what trying all assignments gave.
+    pub fn outcome(&mut self, outcome: &Outcome, refuted: bool) {
+        match outcome {
+            Outcome::Fine { models, steps, assumptions } => {
+                self.tried_texts += 1;
+                self.tried_refuted += u64::from(refuted);
+                self.tried += steps + assumptions;
+                self.tried_steps += steps;
+                if *models > 0 {
+                    self.tried_with_model += steps + assumptions;
+                    self.tried_steps_with_model += steps;
+                }
+            }
+            _ => self.untried += 1,
+        }
+    }
+
+    /// One line for the progress.
+    pub fn progress(&self, seconds: f64) -> String {
+        format!("{seconds:6.0} s: {} texts, {} steps, {} marked lines tried, no difference", self.texts, self.steps, self.tried)
+    }
+
+    /// What a long run should have reached and did not, and answers that document 01 does not have for a rule.
+    pub fn missing(&self) -> Vec<String> {
+        let mut missing = Vec::new();
+        for rule in RULES {
+            let counts = &self.answers[rule as usize].0;
+            for (answer, count) in counts.iter().enumerate() {
+                match (rule.answers().contains(&(answer as u8)), count) {
+                    (true, 0) => missing.push(format!("{} never answered {answer}", rule.name())),
+                    (false, 1..) => missing.push(format!("{} answered {answer}, which document 01 does not have", rule.name())),
+                    _ => (),
+                }
+            }
+        }
+        missing.extend((1..9).filter(|number| self.refusals[*number] == 0).map(|number| format!("refusal {number} never came")));
+        missing.extend(self.missing_marks());
+        missing
+    }
+
+    fn missing_marks(&self) -> Vec<String> {
+        let mut missing = Vec::new();
+        for rule in RULES {
+            let (accepted, plain, holds) =
+                (self.answers[rule as usize].0[0], self.plain[rule as usize], self.holds[rule as usize]);
+            if holds == 0 || holds == plain {
+                missing.push(format!("{} always or never holds where it is plain", rule.name()));
+            }
+            if (accepted > plain) != rule.can_be_unplain() {
+                missing.push(format!("{}: {plain} of {accepted} accepted steps are plain", rule.name()));
+            }
+        }
+        if self.refuted == 0 || self.tried_refuted == 0 {
+            missing.push("no text is refuted".to_owned());
+        }
+        missing
+    }
+
+    /// The tables at the end of a run.
+    pub fn summary(&self) -> String {
+        let mut text = String::new();
+        let kinds: Vec<String> = texts::KINDS.iter().zip(self.kinds).map(|(kind, count)| format!("{kind} {count}")).collect();
+        let _ = writeln!(text, "texts {}: {}", self.texts, kinds.join(", "));
+        let refusals: Vec<String> = (1..9).map(|number| format!("{number}: {}", self.refusals[number])).collect();
+        let _ = writeln!(text, "read {}, refuted {}; refusals {}", self.read, self.refuted, refusals.join(", "));
+        self.answer_table(&mut text);
+        self.mark_table(&mut text);
+        let _ = writeln!(
+            text,
+            "all assignments: {} texts, {} of them refuted; not tried {}",
+            self.tried_texts, self.tried_refuted, self.untried
+        );
+        let _ = writeln!(text, "lines with holds=yes that were tried: {}, {} of them steps", self.tried, self.tried_steps);
+        let (lines, steps) = (self.tried_with_model, self.tried_steps_with_model);
+        let _ = writeln!(text, "and with an assignment that satisfies the assumptions: {lines}, {steps} of them steps");
+        text
+    }
+
+    fn answer_table(&self, text: &mut String) {
+        let _ = write!(text, "{:>8}", "answer");
+        *text += &RULES.map(|rule| format!("{:>18}", rule.name())).concat();
+        for answer in (0..ANSWERS).filter(|answer| RULES.iter().any(|rule| self.answers[*rule as usize].0[*answer] > 0)) {
+            let _ = write!(text, "\n{answer:>8}");
+            for rule in RULES {
+                let count = self.answers[rule as usize].0[answer];
+                let _ = match count {
+                    0 => write!(text, "{:>18}", "-"),
+                    _ => write!(text, "{count:>18}"),
+                };
+            }
+        }
+        text.push('\n');
+    }
+
+    fn mark_table(&self, text: &mut String) {
+        for (name, counts) in [("plain", &self.plain), ("holds", &self.holds)] {
+            let _ = write!(text, "{name:>8}");
+            *text += &RULES.map(|rule| format!("{:>18}", counts[rule as usize])).concat();
+            let _ = writeln!(text, "  assumptions {}", counts[Rule::Assume as usize]);
+        }
+        let _ = writeln!(text, "steps {}", self.steps);
+    }
+}
+
+#[cfg(test)]
+mod tests {
+    use super::Count;
+    use crate::brute::Outcome;
+    use crate::report::{Line, Report};
+    use crate::rules::RULES;
+
+    /// A count that has everything once.
+    fn all_reached() -> Count {
+        let mut count = Count::default();
+        count.too_small();
+        (2..9).for_each(|number| count.report(&Report::Refused(number)));
+        for rule in RULES {
+            let refused = rule.answers()[1..].iter().map(|answer| Line { rule, answer: *answer, plain: false, holds: false });
+            let accepted = [(true, true), (true, false), (!rule.can_be_unplain(), false)];
+            let accepted = accepted.map(|(plain, holds)| Line { rule, answer: 0, plain, holds });
+            count.report(&Report::Read(refused.chain(accepted).collect(), true));
+        }
+        count.outcome(&Outcome::Fine { models: 0, steps: 1, assumptions: 1 }, true);
+        count
+    }
+
+    #[test]
+    fn everything_is_asked_for() {
+        assert!(all_reached().missing().is_empty());
+        let pairs: usize = RULES.iter().map(|rule| rule.answers().len()).sum();
+        assert_eq!(pairs, 80);
+        assert!(Count::default().missing().len() >= pairs + 8);
+    }
+
+    #[test]
+    fn an_answer_of_another_rule_is_noticed() {
+        let mut count = all_reached();
+        let line = Line { rule: RULES[4], answer: 20, plain: false, holds: false };
+        count.report(&Report::Read(vec![line], false));
+        assert_eq!(count.missing(), ["cp_literal answered 20, which document 01 does not have"]);
+    }
+}

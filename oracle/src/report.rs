@@ -1,0 +1,90 @@
+//! The account of a text, and the report of document 01, section 6, that is written of it.
+
+use crate::answer::{ACCEPTED, answer};
+use crate::ast::Pool;
+use crate::marks::{is_contradiction, is_plain, is_statement};
+use crate::reader::{Command, Refusal, Rule, read};
+use std::fmt::Write;
+
+/// What is said of a text that was read.
+#[derive(Debug, Clone)]
+pub struct Account {
+    /// Its commands.
+    pub commands: Vec<Command>,
+    /// What is said of each.
+    pub lines: Vec<Line>,
+    /// Whether some line that holds is `(>= 0 k)`, k at least 1.
+    pub refuted: bool,
+}
+
+/// What is said of a command.
+#[derive(Debug, Clone, Copy, PartialEq, Eq)]
+pub struct Line {
+    /// Its answer, 0 where it is accepted.
+    pub answer: u8,
+    /// The mark `plain`.
+    pub plain: bool,
+    /// The mark `holds`.
+    pub holds: bool,
+}
+
+/// The account of a text, or why it is not read.
+pub fn account(text: &[u8]) -> Result<Account, Refusal> {
+    let mut pool = Pool::new();
+    let commands = read(&mut pool, text)?;
+    let mut lines = Vec::with_capacity(commands.len());
+    for (place, command) in commands.iter().enumerate() {
+        let line = line(&mut pool, command, &commands[..place], &lines);
+        lines.push(line);
+    }
+    let refuted = commands.iter().zip(&lines).any(|(command, line)| line.holds && is_contradiction(&command.clause));
+    Ok(Account { commands, lines, refuted })
+}
+
+/// What is said of a command, given the commands above it and what is said of them.
+fn line(pool: &mut Pool, command: &Command, above: &[Command], lines: &[Line]) -> Line {
+    let answer = answer(pool, command, above);
+    let plain = answer == ACCEPTED && is_plain(command, above);
+    let holds = match command.rule {
+        Rule::Assume => is_statement(&command.clause[0]),
+        _ => plain && command.premises.iter().all(|place| lines[*place].holds),
+    };
+    Line { answer, plain, holds }
+}
+
+/// The report of a text, for a caller with room enough for it: refusal 1 is not given here.
+pub fn report(text: &[u8]) -> Vec<u8> {
+    match account(text) {
+        Ok(account) => account.written(),
+        Err(Refusal { number, byte }) => format!("refused={number} byte={byte}\n"),
+    }
+    .into_bytes()
+}
+
+impl Account {
+    /// A line for each command, then the totals.
+    fn written(&self) -> String {
+        let mut report = String::new();
+        for (command, line) in self.commands.iter().zip(&self.lines) {
+            writeln!(
+                report,
+                "id={} rule={} answer={} plain={} holds={}",
+                command.id,
+                command.rule.name(),
+                line.answer,
+                yes_or_no(line.plain),
+                yes_or_no(line.holds)
+            )
+            .expect("a string takes every line");
+        }
+        let refused = self.lines.iter().filter(|line| line.answer != ACCEPTED).count();
+        writeln!(report, "commands={} refused={refused} refuted={}", self.lines.len(), yes_or_no(self.refuted))
+            .expect("a string takes every line");
+        report
+    }
+}
+
+/// How a mark is written.
+fn yes_or_no(mark: bool) -> &'static str {
+    if mark { "yes" } else { "no" }
+}
