@@ -184,3 +184,27 @@ fn refused_texts_have_one_line() {
     assert_eq!(oracle::report(&[b' '; 32_769]), b"refused=2 byte=32768\n");
     assert_eq!(oracle::report(b""), b"commands=0 refused=0 refuted=no\n");
 }
+
+/// The rows of docs/DIFFERENCES.md that the original has an answer for: it accepts each, and the mark is as the row says.
+#[test]
+fn the_list_of_differences() {
+    if !has_original() {
+        return;
+    }
+    const SUM: &str = "(>= (* 0 (+ x y)) 0)";
+    let rows: [(bool, Step); 8] = [
+        // kept out by the mark plain
+        (false, ("cp_addition", &["(>= (* 3 x) 1)", "(>= 0 0)"], "(>= (* 0 x) 1)", "")),
+        (false, ("cp_normalize", &[], "(= (>= (- x) 0) (>= x 0))", "")),
+        (false, ("cp_normalize", &[], "(= (>= (* -1 x) 0) (>= (* 1 (- 1 (- 1 x))) 1))", "")),
+        (false, ("cp_multiplication", &[SUM], SUM, "1")),
+        // sound all the same
+        (true, ("cp_division", &["(>= (* 2 x) -4)"], "(>= (* 1 x) -1)", "2")),
+        (true, ("cp_addition", &["(>= (* -2 x) -1)", "(>= (* 1 (- 1 x)) 0)"], "(>= (* 3 (- 1 x)) 1)", "")),
+        (true, ("cp_multiplication", &["(>= (* 3 x) 1)"], "(>= (* 0 x) 0)", "0")),
+        (true, ("cp_literal", &["(>= x 0)"], "(>= x 0)", "x")),
+    ];
+    for (plain, step) in rows {
+        assert_eq!(said(step), (0, plain), "{}", text_of(step));
+    }
+}
