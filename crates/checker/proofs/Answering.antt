@@ -80,11 +80,11 @@ kept-refl cs ks sl = record { coefficients = refl; keys = refl; slots = refl }
 pub kept-room : {cs₀ : List ℤ} {ks₀ sl₀ : List ℕ} {cs : List ℤ} {ks sl : List ℕ} → Kept cs₀ ks₀ sl₀ cs ks sl → Room cs₀ ks₀ sl₀ → Room cs ks sl
 kept-room k r = record { coefficients = omega (arith, k .coefficients, r .coefficients); keys = omega (arith, k .keys, r .keys); slots = omega (arith, k .slots, r .slots) }
 
-pub room-of : (z : ℤ) (a b : ℕ) → Room (replicate 1024 z) (replicate 1024 a) (replicate 8193 b)
+pub room-of : (z : ℤ) (a b : ℕ) → Room (replicate 1024 z) (replicate 1024 a) (replicate 2049 b)
 room-of z a b = record {
   coefficients = omega (arith, length-replicate 1024 z);
   keys = omega (arith, length-replicate 1024 a);
-  slots = omega (arith, length-replicate 8193 b);
+  slots = omega (arith, length-replicate 2049 b);
 }
 
 pub entries-of : (z : ℤ) → maxEntries ≤ length (replicate 1024 z)

@@ -1,7 +1,7 @@
 -- The two ways in which `put` ends: a coefficient that grew, or one entry more and its slot.
-use mathlib.Core.Path.{_≡_, sym, ap, _∙_}
+use mathlib.Core.Path.{_≡_, refl, sym, ap, _∙_}
 use mathlib.Core.List.{List}
-use Prim.Native.Nat.{ℕ, _+_, _≤_, _<_}
+use Prim.Native.Nat.{ℕ, suc, _+_, _≤_, _<_}
 use native.Mathlib.Decide.{decLt}
 use native.Mathlib.Numerals.{add-one}
 use native.Mathlib.Omega.{arith}
@@ -13,8 +13,8 @@ use Rattle.calculus.specs.Sums.{entry}
 use Rattle.nodes.specs.Nodes.{Node}
 use Rattle.matching.specs.Matched.{term, litAt, variableOf}
 use Rattle.matching.specs.Entries.{entryAt, entries}
-use Rattle.sums.specs.Lists.{indexOf, maxEntries, slotAt, Fine}
-use Rattle.sums.specs.Found.{FindIs, Put1, Appended, PutIs}
+use Rattle.sums.specs.Lists.{indexOf, maxEntries, noSlot, slotAt, Taken, Fine}
+use Rattle.sums.specs.Found.{FindIs, FreeIs, Put1, Appended, PutIs}
 use Rattle.sums.proofs.Runs.{index-le, put-at, put-new}
 
 pub put1 : {A : Type 0} (z : A) (l : List A) (i : ℕ) (a : A) → i < length l → Put1 z l i a (set l i a)
@@ -53,8 +53,8 @@ module _ {t ks sl : List ℕ} {n k i : ℕ} (cs : List ℤ) (c : ℤ) (I : FindI
         ]
       ]
 
-  pub put-appended : (p : ℕ) (ds : List ℤ) (ls tl : List ℕ) (r : ℕ) → n ≤ i → n < maxEntries → Node t (variableOf k) → p ≡ slotAt t k → Appended cs ks sl n p k c ds ls tl r → PutIs t cs ks n k c ds ls tl r
-  put-appended p ds ls tl r h lim N ep A = record {
+  pub put-appended : (p : ℕ) (ds : List ℤ) (ls tl : List ℕ) (r : ℕ) → n ≤ i → n < maxEntries → Node t (variableOf k) → FreeIs t ks sl n k p → Appended cs ks sl n p k c ds ls tl r → PutIs t cs ks n k c ds ls tl r
+  put-appended p ds ls tl r h lim N P A = record {
     is = λ x under a.
         let last : indexOf (litAt (term x) k) (entries (term x) cs ks n) ≡ n = omega (arith, I .is x cs under a, index-le (litAt (term x) k) (entryAt (term x) cs ks) 0 n) in
         let new : entryAt (term x) ds ls n ≡ entry (litAt (term x) k) c = rw (A .coefficients .new, A .keys .new) in
@@ -64,8 +64,8 @@ module _ {t ks sl : List ℕ} {n k i : ℕ} (cs : List ℤ) (c : ℤ) (I : FindI
       few = omega (arith, A .count);
       nodes = λ m l. by-last l (A .count) (λ q f. rw (A .keys .old m f) (F .nodes m q)) (λ e. rw (e, A .keys .new) N);
       slots = λ m l. by-last l (A .count)
-          (λ q f. rw (A .keys .old m f) (λ w. A .slots .old _ (λ e. I .apart h (omega arith) m q (e ∙ ep)) ∙ F .slots m q w))
-          (λ e. rw (e, A .keys .new, ← ep) (λ w. A .slots .new));
+          (λ q f. rw (A .keys .old m f) (λ w. taken-still (slotAt t (getD ks m 0)) (suc m) (λ e. P .apart (omega arith) m q e) (omega arith) (F .slots m q w)))
+          (λ e. rw (e, A .keys .new) taken-new);
     };
     grows = omega (arith, A .count);
     under = λ u under a m l. by-last l (A .count) (λ q f. rw (A .keys .old m f) (under m q)) (λ e. rw (e, A .keys .new) a);
@@ -73,3 +73,21 @@ module _ {t ks sl : List ℕ} {n k i : ℕ} (cs : List ℤ) (c : ℤ) (I : FindI
         (λ q f. rw (A .coefficients .old m f) (within-more (omega arith) (b m q)))
         (λ e. rw (e, A .coefficients .new) (within-more (omega arith) w));
   }
+    where
+      -- what was taken is taken still, but for the slot that was written
+      taken-still : (s j : ℕ) → (s ≡ p → ⊥) → j ≤ n → Taken t ks sl j s → Taken t ls tl j s
+      taken-still s j f l T = rw (A .slots .old s f) (T .0, rw (A .keys .old (getD sl s 0) (λ z. omega (arith, T .0))) (T .1))
+
+      taken-new : slotAt t k < noSlot → Taken t ls tl (suc n) (slotAt t k)
+      taken-new w = go (decLt p (slotAt t k)) (decLt (slotAt t k) p)
+        where
+          other : (p ≡ slotAt t k → ⊥) → Taken t ls tl (suc n) (slotAt t k)
+          other f = let T = taken-still (slotAt t k) n (λ z. f (sym z)) (omega arith) (P .taken w f) in (omega (arith, T .0), T .1)
+
+          own : p ≡ slotAt t k → Taken t ls tl (suc n) (slotAt t k)
+          own e = let z : getD tl (slotAt t k) 0 ≡ n = rw (← e) (A .slots .new) in rw (z, A .keys .new) (omega arith, refl)
+
+          go : Dec (p < slotAt t k) → Dec (slotAt t k < p) → Taken t ls tl (suc n) (slotAt t k)
+          go (yes a) b = other (λ z. omega arith)
+          go (no a) (yes b) = other (λ z. omega arith)
+          go (no a) (no b) = own (omega arith)

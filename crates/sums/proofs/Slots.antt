@@ -1,25 +1,24 @@
--- Slots: a key's slot by its name's number and sign; two keys over names are one literal exactly where they have one slot.
--- From it: what looking up by slots, and by walking, finds.
-use mathlib.Core.Path.{_≡_, refl, sym, ap, _∙_, subst}
+-- Slots: a key's slot by its name's number and sign. One literal has one slot; names share slots, so that one slot may have several literals.
+-- From it: what looking up by slots, and by walking, finds, and which slot a new key takes.
+use mathlib.Core.Path.{_≡_, refl, sym, _∙_, subst}
 use mathlib.Core.Bool.{Bool, true, false, not, cond, _&&_, Bool·beq}
 use mathlib.Core.List.{List}
-use Prim.Native.Nat.{ℕ, _+_, _*_, _-_, _%_, _≤_, _<_}
+use Prim.Native.Nat.{ℕ, suc, _+_, _*_, _-_, _%_, _≤_, _<_}
 use native.Mathlib.Decide.{decLt}
 use native.Mathlib.Omega.{arith}
 use borrow.Author.Tests.{eqb-true, eqb-false, lt-ltb, le-ltb}
-use lib.Dec.{T, eqb}
+use lib.Dec.{T}
 use lib.IntN.{ℤ}
 use lib.ListN.{getD}
 use Rattle.calculus.specs.Equality.{sameTerm}
 use Rattle.calculus.specs.Sums.{sameLit}
-use Rattle.calculus.specs.Writing.{maxNodes}
 use Rattle.calculus.proofs.Booleans.{and-l, and-r, beq-eq, beq-refl, is-true}
 use Rattle.nodes.specs.Nodes.{nameKind, kindAt, Node}
-use Rattle.nodes.proofs.Comparing.{equal-name, equal-other}
+use Rattle.nodes.proofs.Comparing.{equal-other}
 use Rattle.matching.specs.Matched.{Text, term, variableOf, negatedOf, litAt}
 use Rattle.matching.specs.Entries.{run, entryAt, entries, Under}
-use Rattle.sums.specs.Lists.{indexOf, noSlot, slotAt, Fine}
-use Rattle.sums.specs.Found.{SameIs, PlaceIs, FindIs}
+use Rattle.sums.specs.Lists.{indexOf, slotNames, noSlot, slotAt, Taken, Fine}
+use Rattle.sums.specs.Found.{SameIs, PlaceIs, FirstIs, FindIs, FreeIs}
 use Rattle.sums.proofs.Runs.{index-none, index-first, index-start, index-more, index-here, index-end}
 use Rattle.matching.proofs.Matches.{pair-nodes}
 
@@ -29,36 +28,19 @@ module _ (t : List ℕ) (k kind : ℕ) (e : kind ≡ kindAt t (variableOf k)) wh
   unfolding slotAt
   slot-term h = rw (← e, lt-ltb kind nameKind h)
 
-  module _ (h : nameKind ≤ kind) (number : ℕ) (q : number ≡ kind - nameKind) where
-    pub slot-name : number < maxNodes → 2 * number + k % 2 ≡ slotAt t k
-    unfolding slotAt
-    slot-name l = rw (← e, le-ltb kind nameKind h, ← q, lt-ltb number maxNodes l)
+  pub slot-name : nameKind ≤ kind → 2 * ((kind - nameKind) % slotNames) + k % 2 ≡ slotAt t k
+  unfolding slotAt
+  slot-name h = rw (← e, le-ltb kind nameKind h)
 
-    pub slot-far : maxNodes ≤ number → noSlot ≡ slotAt t k
-    unfolding slotAt
-    slot-far l = rw (← e, le-ltb kind nameKind h, ← q, le-ltb number maxNodes l)
+pub slot-most : (t : List ℕ) (k : ℕ) → slotAt t k ≤ noSlot
+slot-most t k = elim (decLt (kindAt t (variableOf k)) nameKind) [
+  | yes l ↦ omega (arith, slot-term t k (kindAt t (variableOf k)) refl l)
+  | no l ↦ omega (arith, slot-name t k (kindAt t (variableOf k)) refl (omega arith))
+]
 
--- what a slot below the last says of its key
-record Numbered (t : List ℕ) (k : ℕ) : Type 0 where
-  name : nameKind ≤ kindAt t (variableOf k)
-  few : kindAt t (variableOf k) - nameKind < maxNodes
-  is : slotAt t k ≡ 2 * (kindAt t (variableOf k) - nameKind) + k % 2
-
-module _ (t : List ℕ) (k : ℕ) where
-  by-kind : {A : Type 0} → (noSlot ≡ slotAt t k → A) → (Numbered t k → A) → A
-  by-kind f g = elim (decLt (kindAt t (variableOf k)) nameKind) [
-    | yes l ↦ f (slot-term t k (kindAt t (variableOf k)) refl l)
-    | no l ↦ elim (decLt (kindAt t (variableOf k) - nameKind) maxNodes) [
-      | yes m ↦ g (record { name = omega arith; few = m; is = sym (slot-name t k (kindAt t (variableOf k)) refl (omega arith) (kindAt t (variableOf k) - nameKind) refl m) })
-      | no m ↦ f (slot-far t k (kindAt t (variableOf k)) refl (omega arith) (kindAt t (variableOf k) - nameKind) refl (omega arith))
-    ]
-  ]
-
-  numbered : slotAt t k < noSlot → Numbered t k
-  numbered h = by-kind (λ e. let z : ⊥ = omega arith in absurd z) (λ N. N)
-
-  pub slot-most : slotAt t k ≤ noSlot
-  slot-most = by-kind (λ e. omega arith) (λ N. omega (arith, N .is, N .few))
+slot-same : (t : List ℕ) (k l : ℕ) → kindAt t (variableOf k) ≡ kindAt t (variableOf l) → k % 2 ≡ l % 2 → slotAt t k ≡ slotAt t l
+unfolding slotAt
+slot-same t k l e q = rw (e, q)
 
 pub and-true : (a : Bool) → a ≡ a && true
 and-true true = refl
@@ -75,9 +57,6 @@ beq-true : (a b : Bool) → a ≡ b → Bool·beq a b ≡ true
 beq-true a b e = rw e (is-true (Bool·beq b b) (beq-refl b))
 
 -- the signs of two keys
-sign-same : (k l : ℕ) → k % 2 ≡ l % 2 → Bool·beq (negatedOf k) (negatedOf l) ≡ true
-sign-same k l e = beq-true (negatedOf k) (negatedOf l) (ap (λ (m : ℕ). eqb m 1) e)
-
 same-sign : (k l : ℕ) → negatedOf k ≡ negatedOf l → k % 2 ≡ l % 2
 same-sign k l e = go (negatedOf k) (negatedOf l) refl refl e
   where
@@ -121,76 +100,89 @@ module _ (t : List ℕ) (k l : ℕ) where
       rw (beq-true (negatedOf k) (negatedOf l) e)
       ((rw (p, q) at (S (x .text) (x .n) (x .named) (omega arith) (omega arith))) ∙ and-true (sameTerm (term x (variableOf k)) (term x (variableOf l))))
 
-module _ {t : List ℕ} (k l : ℕ) (N : Node t (variableOf k)) (M : Node t (variableOf l)) (h : slotAt t k < noSlot) (x : Text t) (a : variableOf k < x .n) (b : variableOf l < x .n) where
-  -- one literal, one slot
-  pub literal-slot : sameLit (litAt (term x) k) (litAt (term x) l) ≡ true → slotAt t l ≡ slotAt t k
-  unfolding sameLit
-  literal-slot e = go (decLt (kindAt t (variableOf k)) (kindAt t (variableOf l))) (decLt (kindAt t (variableOf l)) (kindAt t (variableOf k)))
-    where
-      K : Numbered t k
-      K = numbered t k h
+-- one literal, one slot
+literal-slot : {t : List ℕ} (k l : ℕ) → Node t (variableOf k) → Node t (variableOf l) → (x : Text t) → variableOf k < x .n → variableOf l < x .n
+    → sameLit (litAt (term x) k) (litAt (term x) l) ≡ true → slotAt t l ≡ slotAt t k
+unfolding sameLit
+literal-slot {t} k l N M x a b e = go (decLt (kindAt t (variableOf k)) (kindAt t (variableOf l))) (decLt (kindAt t (variableOf l)) (kindAt t (variableOf k)))
+  where
+    both-parts : T (sameTerm (term x (variableOf k)) (term x (variableOf l)) && Bool·beq (negatedOf k) (negatedOf l))
+    both-parts = subst T (sym e) tt
 
-      both-parts : T (sameTerm (term x (variableOf k)) (term x (variableOf l)) && Bool·beq (negatedOf k) (negatedOf l))
-      both-parts = subst T (sym e) tt
+    same : sameTerm (term x (variableOf k)) (term x (variableOf l)) ≡ true
+    same = is-true (sameTerm (term x (variableOf k)) (term x (variableOf l))) (and-l (sameTerm (term x (variableOf k)) (term x (variableOf l))) (Bool·beq (negatedOf k) (negatedOf l)) both-parts)
 
-      same : sameTerm (term x (variableOf k)) (term x (variableOf l)) ≡ true
-      same = is-true (sameTerm (term x (variableOf k)) (term x (variableOf l))) (and-l (sameTerm (term x (variableOf k)) (term x (variableOf l))) (Bool·beq (negatedOf k) (negatedOf l)) both-parts)
+    sign : k % 2 ≡ l % 2
+    sign = same-sign k l (beq-eq (negatedOf k) (negatedOf l) (and-r (sameTerm (term x (variableOf k)) (term x (variableOf l))) (Bool·beq (negatedOf k) (negatedOf l)) both-parts))
 
-      sign : k % 2 ≡ l % 2
-      sign = same-sign k l (beq-eq (negatedOf k) (negatedOf l) (and-r (sameTerm (term x (variableOf k)) (term x (variableOf l))) (Bool·beq (negatedOf k) (negatedOf l)) both-parts))
+    other : (kindAt t (variableOf k) ≡ kindAt t (variableOf l) → ⊥) → slotAt t l ≡ slotAt t k
+    other f = differs (equal-other (pair-nodes N M) f (x .text) (x .n) (x .named) a b ∙ same)
 
-      other : (kindAt t (variableOf k) ≡ kindAt t (variableOf l) → ⊥) → slotAt t l ≡ slotAt t k
-      other f = differs (equal-other (pair-nodes N M) f (x .text) (x .n) (x .named) a b ∙ same)
+    go : Dec (kindAt t (variableOf k) < kindAt t (variableOf l)) → Dec (kindAt t (variableOf l) < kindAt t (variableOf k)) → slotAt t l ≡ slotAt t k
+    go (yes p) q = other (λ z. omega arith)
+    go (no p) (yes q) = other (λ z. omega arith)
+    go (no p) (no q) = slot-same t l k (omega arith) (sym sign)
 
-      go : Dec (kindAt t (variableOf k) < kindAt t (variableOf l)) → Dec (kindAt t (variableOf l) < kindAt t (variableOf k)) → slotAt t l ≡ slotAt t k
-      go (yes p) q = other (λ z. omega arith)
-      go (no p) (yes q) = other (λ z. omega arith)
-      go (no p) (no q) =
-          omega (arith, K .is, sign, slot-name t l (kindAt t (variableOf l)) refl (omega (arith, K .name)) (kindAt t (variableOf l) - nameKind) refl (omega (arith, K .few)))
+-- ---- the first key with a slot
+module _ {t ks sl : List ℕ} {n : ℕ} (F : Fine t ks sl n) (slot p : ℕ) (e : p ≡ getD sl slot 0) where
+  slot-least : slot < noSlot → (m : ℕ) → m < n → slotAt t (getD ks m 0) ≡ slot → p ≤ m
+  slot-least h m l q =
+      let f : getD sl slot 0 < suc m = (rw q at (F .slots m l (omega arith))) .0 in
+      omega arith
 
-  -- one slot, one literal
-  pub slot-literal : slotAt t l ≡ slotAt t k → sameLit (litAt (term x) k) (litAt (term x) l) ≡ true
-  unfolding sameLit
-  slot-literal e =
-      let K = numbered t k h in
-      let L = numbered t l (omega arith) in
-      let m : kindAt t (variableOf k) ≡ kindAt t (variableOf l) = omega (arith, K .is, L .is, K .name, L .name) in
-      let s : k % 2 ≡ l % 2 = omega (arith, K .is, L .is, K .name, L .name) in
-      rw (← equal-name (pair-nodes N M) m (K .name) (x .text) (x .n) (x .named) a b, sign-same k l s)
+  pub first-here : p < n → slotAt t (getD ks p 0) ≡ slot → FirstIs t ks sl n slot p
+  first-here l q = record { most = omega arith; least = slot-least; taken = λ w. (omega arith, rw (← e) q) }
+
+  pub first-none : (p < n → slotAt t (getD ks p 0) ≡ slot → ⊥) → FirstIs t ks sl n slot n
+  first-none f = record {
+    most = omega arith;
+    least = λ h m l q.
+        let k : Taken t ks sl (suc m) slot = rw q at (F .slots m l (omega arith)) in
+        let z : slotAt t (getD ks p 0) ≡ slot = rw e (k .1) in
+        absurd (f (omega (arith, k .0)) z);
+    taken = λ w. let z : ⊥ = omega arith in absurd z;
+  }
 
 -- ---- looking up by slots
-module _ {t ks sl : List ℕ} {n : ℕ} (k : ℕ) (N : Node t (variableOf k)) (F : Fine t ks sl n) (h : slotAt t k < noSlot) (p : ℕ) (e : p ≡ getD sl (slotAt t k) 0) where
-  -- no key but the one at p has this slot
-  slot-there : (m : ℕ) → m < n → slotAt t (getD ks m 0) ≡ slotAt t k → p ≡ m
-  slot-there m l q = e ∙ (rw q at (F .slots m l (omega arith)))
-
-  -- what has another slot is another literal
-  literal-other : (x : Text t) → Under (x .n) ks n → variableOf k < x .n → (m : ℕ) → m < n → (slotAt t (getD ks m 0) ≡ slotAt t k → ⊥)
+module _ {t ks sl : List ℕ} {n : ℕ} (k : ℕ) (N : Node t (variableOf k)) (F : Fine t ks sl n) (slot : ℕ) (e : slot ≡ slotAt t k) (h : slot < noSlot) (p : ℕ) (P : FirstIs t ks sl n slot p) where
+  -- what stands before the first with this slot is another literal
+  literal-other : (x : Text t) → Under (x .n) ks n → variableOf k < x .n → (m : ℕ) → m < n → m < p
       → sameLit (litAt (term x) k) (litAt (term x) (getD ks m 0)) ≡ false
   literal-other x under a m l f = go (sameLit (litAt (term x) k) (litAt (term x) (getD ks m 0))) refl
     where
       go : (b : Bool) → sameLit (litAt (term x) k) (litAt (term x) (getD ks m 0)) ≡ b → b ≡ false
-      go true q = absurd (f (literal-slot k (getD ks m 0) N (F .nodes m l) h x a (under m l) q))
+      go true q = let z : ⊥ = omega (arith, P .least h m l (literal-slot k (getD ks m 0) N (F .nodes m l) x a (under m l) q ∙ sym e)) in absurd z
       go false q = refl
 
-  pub find-here : p < n → slotAt t (getD ks p 0) ≡ slotAt t k → FindIs t ks n k p
-  find-here l q = record {
+  pub find-here : p < n → SameIs t k (getD ks p 0) true → FindIs t ks n k p
+  find-here l S = record {
     is = λ x cs under a. sym (index-first (litAt (term x) k) (entryAt (term x) cs ks) 0 n p l
-        (λ m b c. literal-other x under a m (omega arith) (λ w. omega (arith, slot-there m (omega arith) w)))
-        (let z : 0 + p ≡ p = omega arith in rw z (slot-literal k (getD ks p 0) N (F .nodes p l) h x a (under p l) q)));
+        (λ m b c. literal-other x under a m (omega arith) (omega arith))
+        (let z : 0 + p ≡ p = omega arith in rw z (sym (S x a (under p l)))));
     most = omega arith;
-    apart = λ w. let z : ⊥ = omega arith in absurd z;
   }
 
-  pub find-none : (p < n → slotAt t (getD ks p 0) ≡ slotAt t k → ⊥) → FindIs t ks n k n
-  find-none f = record {
-    is = λ x cs under a. sym (index-none (litAt (term x) k) (entryAt (term x) cs ks) 0 n (λ m b c. literal-other x under a m (omega arith) (none-there m (omega arith))));
+  pub find-none : n ≤ p → FindIs t ks n k n
+  find-none l = record {
+    is = λ x cs under a. sym (index-none (litAt (term x) k) (entryAt (term x) cs ks) 0 n (λ m b c. literal-other x under a m (omega arith) (omega arith)));
     most = omega arith;
-    apart = λ w g. none-there;
   }
-    where
-      none-there : (m : ℕ) → m < n → slotAt t (getD ks m 0) ≡ slotAt t k → ⊥
-      none-there m l q = let z : p ≡ m = slot-there m l q in f (omega arith) (rw z q)
+
+-- ---- the slot of a new key
+module _ {t ks sl : List ℕ} {n : ℕ} (k slot : ℕ) (e : slot ≡ slotAt t k) (p : ℕ) (P : FirstIs t ks sl n slot p) where
+  pub free-own : n ≤ p → FreeIs t ks sl n k slot
+  free-own l = record {
+    most = omega (arith, slot-most t k);
+    apart = λ h m b q. omega (arith, P .least h m b q);
+    taken = λ h f. absurd (f e);
+  }
+
+  pub free-none : p < n → FreeIs t ks sl n k noSlot
+  free-none l = record {
+    most = omega arith;
+    apart = λ h. let z : ⊥ = omega arith in absurd z;
+    taken = λ h f. rw (← e) (P .taken l);
+  }
 
 -- ---- looking up by walking: from i on the place is that in the whole
 abbrev pub Walking : (t ks : List ℕ) → ℕ → ℕ → ℕ → Type 0
@@ -210,7 +202,3 @@ module _ (t ks : List ℕ) (n k : ℕ) where
 
     pub walk-end : n ≤ i → i ≤ n → PlaceIs t ks n k i × (i ≤ n)
     walk-end l m = ((λ x cs under a. sym (index-end (litAt (term x) k) (entryAt (term x) cs ks) i n _ l (W x cs under a))), m)
-
--- a key over no name has no slot that another could have
-pub find-walked : {t ks : List ℕ} {n k r : ℕ} → noSlot ≤ slotAt t k → PlaceIs t ks n k r × (r ≤ n) → FindIs t ks n k r
-find-walked h P = record { is = P .0; most = P .1; apart = λ w g. let z : ⊥ = omega arith in absurd z }

@@ -12,7 +12,7 @@ use Rattle.calculus.specs.Words.{Res, ok, bad, maxNumeral}
 use Rattle.nodes.specs.Nodes.{decode, Below, Node}
 use Rattle.matching.specs.Matched.{Text, term, Inner, litAt, variableOf}
 use Rattle.matching.specs.Entries.{entryAt, entries, Under}
-use Rattle.sums.specs.Lists.{indexOf, noSlot, slotAt, Bounded, Fine, maxTotal, maxAdded, maxEntries, resOf}
+use Rattle.sums.specs.Lists.{indexOf, noSlot, slotAt, Taken, Bounded, Fine, maxTotal, maxAdded, maxEntries, resOf}
 use Rattle.matching.specs.declared.Constant.{Constant}
 use Rattle.matching.specs.declared.Constant.the-variants as constants
 use Rattle.sums.specs.declared.Summand.{Summand}
@@ -29,8 +29,18 @@ PlaceIs t ks n k r = (x : Text t) (cs : List ℤ) → Under (x .n) ks n → vari
 pub record FindIs (t ks : List ℕ) (n k r : ℕ) : Type 0 where
   pub is : PlaceIs t ks n k r
   pub most : r ≤ n
-  -- where a key over a name is not found, no key has its slot
-  pub apart : n ≤ r → slotAt t k < noSlot → (i : ℕ) → i < n → slotAt t (getD ks i 0) ≡ slotAt t k → ⊥
+
+-- where the first key with a slot stands among the first n
+pub record FirstIs (t ks sl : List ℕ) (n slot r : ℕ) : Type 0 where
+  pub most : r ≤ n
+  pub least : slot < noSlot → (i : ℕ) → i < n → slotAt t (getD ks i 0) ≡ slot → r ≤ i
+  pub taken : r < n → Taken t ks sl n slot
+
+-- the slot that a new key takes: no key has it, and where it is not the key's own, that one is taken
+pub record FreeIs (t ks sl : List ℕ) (n k r : ℕ) : Type 0 where
+  pub most : r ≤ noSlot
+  pub apart : r < noSlot → (i : ℕ) → i < n → slotAt t (getD ks i 0) ≡ r → ⊥
+  pub taken : slotAt t k < noSlot → (r ≡ slotAt t k → ⊥) → Taken t ks sl n (slotAt t k)
 
 -- r is l but for a at i
 pub record Put1 {A : Type 0} (z : A) (l : List A) (i : ℕ) (a : A) (r : List A) : Type 0 where

@@ -9,7 +9,6 @@ use lib.ListN.{length, getD}
 use Rattle.integer.specs.Integers.{Within}
 use Rattle.calculus.specs.Sums.{Lit, Entry, sameLit, maxSummands}
 use Rattle.calculus.specs.Words.{Res, ok, bad, maxNumeral}
-use Rattle.calculus.specs.Writing.{maxNodes}
 use Rattle.nodes.specs.Nodes.{nameKind, kindAt}
 use Rattle.matching.specs.Entries.{Variables}
 use Rattle.matching.specs.Matched.{variableOf}
@@ -23,15 +22,17 @@ indexOf k (e ∷ E) = cond (sameLit k (e .lit)) 0 (suc (indexOf k E))
 abbrev pub maxEntries : ℕ
 maxEntries = 1024
 
--- the slots of the keys over names; this one is for every other key
+-- names whose numbers differ by a multiple of this share their slots
+abbrev pub slotNames : ℕ
+slotNames = 1024
+
+-- the slots of the keys over names lie below; this one is for every other key
 abbrev pub noSlot : ℕ
-noSlot = 8192
+noSlot = 2048
 
 -- the slot of a key: by its name's number and its sign
 unfoldable pub slotAt : List ℕ → ℕ → ℕ
-slotAt t k =
-    cond (ltb (kindAt t (variableOf k)) nameKind) noSlot
-    (cond (ltb (kindAt t (variableOf k) - nameKind) maxNodes) (2 * (kindAt t (variableOf k) - nameKind) + k % 2) noSlot)
+slotAt t k = cond (ltb (kindAt t (variableOf k)) nameKind) noSlot (2 * ((kindAt t (variableOf k) - nameKind) % slotNames) + k % 2)
 
 -- the lent slices can hold every sum
 pub record Room (cs : List ℤ) (ks sl : List ℕ) : Type 0 where
@@ -43,11 +44,15 @@ pub record Room (cs : List ℤ) (ks sl : List ℕ) : Type 0 where
 abbrev pub Bounded : ℕ → List ℤ → ℕ → Type 0
 Bounded B cs n = (i : ℕ) → i < n → Within B (getD cs i (pos 0))
 
--- n keys that can be looked up: the slot of a key over a name holds its place; nothing is asked of the other slots
+-- a slot holds the place of one of the first n keys that has this slot
+abbrev pub Taken : (t ks sl : List ℕ) → ℕ → ℕ → Type 0
+Taken t ks sl n slot = (getD sl slot 0 < n) × (slotAt t (getD ks (getD sl slot 0) 0) ≡ slot)
+
+-- n keys that can be looked up: the slot of a key over a name holds its place, or that of one before it; nothing is asked of the other slots
 pub record Fine (t ks sl : List ℕ) (n : ℕ) : Type 0 where
   pub few : n ≤ maxEntries
   pub nodes : Variables t ks n
-  pub slots : (i : ℕ) → i < n → slotAt t (getD ks i 0) < noSlot → getD sl (slotAt t (getD ks i 0)) 0 ≡ i
+  pub slots : (i : ℕ) → i < n → slotAt t (getD ks i 0) < noSlot → Taken t ks sl (suc i) (slotAt t (getD ks i 0))
 
 -- n entries that can be read one by one
 pub record Listed (t : List ℕ) (cs : List ℤ) (ks : List ℕ) (n : ℕ) : Type 0 where

@@ -1,5 +1,6 @@
 // Sums: entry lists in lent slices, written in place. A sum is its coefficients and its keys in order of first appearance, with a count;
-// beside them `slots` holds, for the key of a name, its place: trusted only where that place is below the count and has that slot, so it is never cleared.
+// beside them `slots` holds, for the keys of names with one slot, the place of the first: trusted only where that place is below the count and has that slot,
+// so it is never cleared, and compared with the key that is looked up, since names share slots.
 use matching::Constant;
 use matching::EXPECTED_ANY_INTEGER;
 use matching::GE;
@@ -23,16 +24,17 @@ ghost use Rattle.nodes.specs.Nodes.{decode, Node};
 ghost use Rattle.matching.specs.Entries.{Variables};
 ghost use Rattle.matching.specs.Matched.{variableOf};
 ghost use Rattle.sums.specs.Lists.{Room, Fine, Listed, Keyed, Bounded, noSlot, slotAt, maxEntries, maxTotal, maxAdded, maxCoefficient};
-ghost use Rattle.sums.specs.Found.{SameIs, PlaceIs, FindIs, Put1, Appended, PutIs, SummandIs, Nodes, LoneIs, ReadIs, InequalityIs, KeptIs, SubsetIs, SameKeysIs, AddIs, CancelIs, ReduceIs};
+ghost use Rattle.sums.specs.Found.{SameIs, PlaceIs, FirstIs, FindIs, FreeIs, Put1, Appended, PutIs, SummandIs, Nodes, LoneIs, ReadIs, InequalityIs, KeptIs, SubsetIs, SameKeysIs, AddIs, CancelIs, ReduceIs};
 
 // The entries that a lent sum has room for, and its slots; the last is for keys over no name.
 pub const MAX_ENTRIES: usize = 1024;
 
-pub const SLOTS: usize = 8193;
+pub const SLOTS: usize = 2049;
 
-const NO_SLOT: usize = 8192;
+const NO_SLOT: usize = 2048;
 
-const MAX_NAMES: u32 = 4096;
+// Names whose numbers differ by a multiple of this share their slots.
+const SLOT_NAMES: u32 = 1024;
 
 // ---- keys
 // The slot of a key: by its name's number and its sign.
@@ -44,12 +46,8 @@ fn slot_of(nodes: &[u32], key: u32) -> usize
     if kind < NAME_KIND {
         return NO_SLOT;
     }
-    let number = kind - NAME_KIND;
-    if number < MAX_NAMES {
-        nodes::wide(2 * number + key % 2)
-    } else {
-        NO_SLOT
-    }
+    let number = (kind - NAME_KIND) % SLOT_NAMES;
+    nodes::wide(2 * number + key % 2)
 }
 
 // Whether two keys are the same literal.
@@ -91,7 +89,21 @@ fn wide(x: u16) -> usize
     x as usize
 }
 
-// Where a key stands, at once for a name; the count where it is none.
+// Where the first key with a slot stands; the count where none has it.
+fn first_at(nodes: &[u32], keys: &[u32], slots: &[u16], n: usize, slot: usize) -> usize
+    requires { ⌜ Keyed (now nodes) (now keys) (now slots) n × (slot ≤ noSlot) ⌝ }
+    ensures { λ r. ⌜ FirstIs (now (nodes .entry)) (now (keys .entry)) (now (slots .entry)) n slot r ⌝ }
+{
+    let place = wide(slots[slot]);
+    if place < n {
+        if slot_of(nodes, keys[place]) == slot {
+            return place;
+        }
+    }
+    n
+}
+
+// Where a key stands, at once for a name whose slot is its own; the count where it is none.
 pub fn find(nodes: &[u32], keys: &[u32], slots: &[u16], n: usize, key: u32) -> usize
     requires { ⌜ Node (now nodes) (variableOf key) ⌝ }
     requires { ⌜ Keyed (now nodes) (now keys) (now slots) n ⌝ }
@@ -99,15 +111,30 @@ pub fn find(nodes: &[u32], keys: &[u32], slots: &[u16], n: usize, key: u32) -> u
 {
     let slot = slot_of(nodes, key);
     if slot < NO_SLOT {
-        let place = wide(slots[slot]);
-        if place < n {
-            if slot_of(nodes, keys[place]) == slot {
-                return place;
-            }
+        let place = first_at(nodes, keys, slots, n, slot);
+        if place >= n {
+            return n;
         }
-        return n;
+        let same = same_literal(nodes, key, keys[place]);
+        if same {
+            return place;
+        }
     }
     walk(nodes, keys, n, key)
+}
+
+// The slot that a new key takes: its own where no key has it.
+fn free_slot(nodes: &[u32], keys: &[u32], slots: &[u16], n: usize, key: u32) -> usize
+    requires { ⌜ Node (now nodes) (variableOf key) ⌝ }
+    requires { ⌜ Keyed (now nodes) (now keys) (now slots) n ⌝ }
+    ensures { λ r. ⌜ FreeIs (now (nodes .entry)) (now (keys .entry)) (now (slots .entry)) n key r ⌝ }
+{
+    let slot = slot_of(nodes, key);
+    if first_at(nodes, keys, slots, n, slot) < n {
+        NO_SLOT
+    } else {
+        slot
+    }
 }
 
 // Adds c to coefficient i.
@@ -163,7 +190,7 @@ pub fn put(
         add_to(coeffs, i, c);
         return n;
     }
-    let slot = slot_of(nodes, key);
+    let slot = free_slot(nodes, keys, slots, n, key);
     append(coeffs, keys, slots, n, slot, key, c)
 }
 

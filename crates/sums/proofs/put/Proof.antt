@@ -1,8 +1,7 @@
--- `sums::put` owes the definition's `put`, and that keys can still be looked up. A key that was found grows; another is appended, and its slot is no other key's.
+-- `sums::put` owes the definition's `put`, and that keys can still be looked up. A key that was found grows; another is appended, with a slot that no key has.
 use native.Mathlib.Omega.{arith}
 use borrow.Author.Needs.{needs}
 use mir.Facts.{toZ-ofZ}
-use Rattle.sums.proofs.Slots.{slot-most}
 use Rattle.sums.proofs.Putting.{put-added, put-appended}
 use Rattle.sums.proofs.put.Statement.{statement}
 use Rattle.sums.proofs.put.Tie as tie
@@ -25,11 +24,11 @@ same-length-3 c = search needs
 returns : tie.Need-returns
 returns c = put-added ((c .before .before .before .before .before .before .before .before .before .before .args) .coeffs .now) ((c .before .before .before .before .before .before .before .before .before .before .args) .c) ((c .before .before .before .before .find) .ensures) ((c .before .before .before .before .before .before .before .before .before .before .pre) .1 .1 .0 .0) ((c .before .add-to) .last .0) (omega arith) (rw (toZ-ofZ ((c .before .before .before .before .before .before .before .before .before .before .fits) .c)) at ((c .before .add-to) .ensures))
 
-slot-of-requires : tie.Need-slot-of-requires
-slot-of-requires c κs = search needs
+free-slot-requires : tie.Need-free-slot-requires
+free-slot-requires c κs = search needs
 
 append-requires : tie.Need-append-requires
-append-requires c κs = ((c .before .before .before .before .before .before .before .before .before .before .before .pre) .1 .0, ((c .before .before .before .before .before .before .before .before .before .before .before .pre) .1 .1 .0 .1, omega (arith, (c .before .before .before .slot-of) .ensures, slot-most ((c .before .before .before .before .before .before .before .before .before .before .before .args) .nodes .now) ((c .before .before .before .before .before .before .before .before .before .before .before .args) .key))))
+append-requires c κs = ((c .before .before .before .before .before .before .before .before .before .before .before .before .before .pre) .1 .0, ((c .before .before .before .before .before .before .before .before .before .before .before .before .before .pre) .1 .1 .0 .1, (c .before .before .before .free-slot) .ensures .most))
 
 same-length-4 : tie.Need-same-length-4
 same-length-4 c = search needs
@@ -41,7 +40,7 @@ same-length-6 : tie.Need-same-length-6
 same-length-6 c = search needs
 
 returns-2 : tie.Need-returns-2
-returns-2 c = put-appended ((c .before .before .before .before .before .before .before .before .before .before .before .before .before .before .before .before .before .args) .coeffs .now) ((c .before .before .before .before .before .before .before .before .before .before .before .before .before .before .before .before .before .args) .c) ((c .before .before .before .before .before .before .before .before .before .before .before .find) .ensures) ((c .before .before .before .before .before .before .before .before .before .before .before .before .before .before .before .before .before .pre) .1 .1 .0 .0) ((c .before .before .before .before .before .before .before .before .before .slot-of) .result) _ _ _ _ (omega arith) ((c .before .before .before .before .before .before .before .before .before .before .before .before .before .before .before .before .before .pre) .1 .1 .0 .1) ((c .before .before .before .before .before .before .before .before .before .before .before .before .before .before .before .before .before .pre) .0) ((c .before .before .before .before .before .before .before .before .before .slot-of) .ensures) (rw (toZ-ofZ ((c .before .before .before .before .before .before .before .before .before .before .before .before .before .before .before .before .before .fits) .c)) at ((c .before .before .before .before .before .append) .ensures))
+returns-2 c = put-appended ((c .before .before .before .before .before .before .before .before .before .before .before .before .before .before .before .before .before .before .before .args) .coeffs .now) ((c .before .before .before .before .before .before .before .before .before .before .before .before .before .before .before .before .before .before .before .args) .c) ((c .before .before .before .before .before .before .before .before .before .before .before .before .before .find) .ensures) ((c .before .before .before .before .before .before .before .before .before .before .before .before .before .before .before .before .before .before .before .pre) .1 .1 .0 .0) ((c .before .before .before .before .before .before .before .before .before .free-slot) .result) _ _ _ _ (omega arith) ((c .before .before .before .before .before .before .before .before .before .before .before .before .before .before .before .before .before .before .before .pre) .1 .1 .0 .1) ((c .before .before .before .before .before .before .before .before .before .before .before .before .before .before .before .before .before .before .before .pre) .0) ((c .before .before .before .before .before .before .before .before .before .free-slot) .ensures) (rw (toZ-ofZ ((c .before .before .before .before .before .before .before .before .before .before .before .before .before .before .before .before .before .before .before .fits) .c)) at ((c .before .before .before .before .before .append) .ensures))
 
 pub put-spec : {M : Type 1} → statement M
 put-spec =
@@ -53,7 +52,7 @@ put-spec =
     same-length-2
     same-length-3
     returns
-    slot-of-requires
+    free-slot-requires
     append-requires
     same-length-4
     same-length-5

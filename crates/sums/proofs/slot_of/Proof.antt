@@ -1,10 +1,9 @@
 -- `sums::slot_of` owes the slot of the definition. Each branch is one of its cases, by the kind of the key's variable.
-use mathlib.Core.Path.{refl, ap, _∙_}
-use Prim.Native.Nat.{_-_}
+use mathlib.Core.Path.{ap, _∙_}
 use native.Mathlib.Omega.{arith}
 use borrow.Author.Needs.{needs}
-use Rattle.nodes.specs.Nodes.{kindAt, nameKind}
-use Rattle.sums.proofs.Slots.{slot-term, slot-name, slot-far}
+use Rattle.nodes.specs.Nodes.{kindAt}
+use Rattle.sums.proofs.Slots.{slot-term, slot-name}
 use Rattle.sums.proofs.slot_of.Statement.{statement}
 use Rattle.sums.proofs.slot_of.Tie as tie
 
@@ -30,10 +29,7 @@ wide-requires-2 : tie.Need-wide-requires-2
 wide-requires-2 c κs = search needs
 
 returns-2 : tie.Need-returns-2
-returns-2 c = (c .wide2) .ensures ∙ slot-name ((c .before .before .before .before .before .before .before .args) .nodes .now) ((c .before .before .before .before .before .before .before .args) .key) ((c .before .before .before .kind-of) .result) ((c .before .before .before .kind-of) .ensures ∙ ap (kindAt ((c .before .before .before .before .before .before .before .args) .nodes .now)) ((c .before .before .before .before .wide) .ensures ∙ (c .before .before .before .before .before .variable-of) .ensures)) (omega arith) ((c .before .before .before .kind-of) .result - nameKind) refl (omega arith)
-
-returns-3 : tie.Need-returns-3
-returns-3 c = slot-far ((c .before .before .before .before .before .before .args) .nodes .now) ((c .before .before .before .before .before .before .args) .key) ((c .before .before .kind-of) .result) ((c .before .before .kind-of) .ensures ∙ ap (kindAt ((c .before .before .before .before .before .before .args) .nodes .now)) ((c .before .before .before .wide) .ensures ∙ (c .before .before .before .before .variable-of) .ensures)) (omega arith) ((c .before .before .kind-of) .result - nameKind) refl (omega arith)
+returns-2 c = (c .wide2) .ensures ∙ slot-name ((c .before .before .before .before .before .before .args) .nodes .now) ((c .before .before .before .before .before .before .args) .key) ((c .before .before .kind-of) .result) ((c .before .before .kind-of) .ensures ∙ ap (kindAt ((c .before .before .before .before .before .before .args) .nodes .now)) ((c .before .before .before .wide) .ensures ∙ (c .before .before .before .before .variable-of) .ensures)) (omega arith)
 
 pub slot-of-spec : {M : Type 1} → statement M
 slot-of-spec =
@@ -46,5 +42,4 @@ slot-of-spec =
     mul-wide
     add-wide
     wide-requires-2
-    returns-2
-    returns-3)
+    returns-2)
