@@ -14,7 +14,7 @@ use std::time::Instant;
 extern "C" {
     // a slice is two arguments: its pointer and its length
     fn cutting_planes_read(
-        text: *const u8, text_len: usize, nodes: *mut u32, nodes_len: usize, commands: *mut u32, commands_len: usize,
+        text: *const u8, text_len: usize, nodes: *mut u32, nodes_len: usize, commands: *mut u16, commands_len: usize,
         answer: *mut usize, answer_len: usize,
     ) -> usize;
 }
@@ -33,7 +33,7 @@ const NAME: u32 = 11;
 /// The tables that are lent to the proved reader.
 struct Tables {
     nodes: Vec<u32>,
-    commands: Vec<u32>,
+    commands: Vec<u16>,
     answer: Vec<usize>,
 }
 
@@ -95,9 +95,9 @@ impl Tables {
         let mut numbers = vec![None; file.names.len()];
         let all = file.commands.iter().enumerate().all(|(number, command)| {
             let [from, to] = self.commands[2 * number..][..2] else { return false };
-            let [kind, clause, terms, premises, cited, arguments, given] = self.commands[PARTS + 7 * number..][..7] else {
-                return false;
-            };
+            let parts = &self.commands[PARTS + 7 * number..][..7];
+            let parts: Vec<u32> = parts.iter().map(|&word| word.into()).collect();
+            let [kind, clause, terms, premises, cited, arguments, given] = parts[..] else { return false };
             text.get(from as usize..to as usize) == Some(command.id)
                 && kind == command.rule.map_or(0, |rule| 1 + rule as u32)
                 && self.are_terms(clause, terms, &command.clause, file, text, &mut numbers, nodes)
@@ -177,7 +177,7 @@ fn check_small(text: &[u8]) {
         tables.commands.fill(7);
         tables.answer.fill(7);
         assert_eq!(tables.read(text), 1, "{nodes}, {commands} and {answer} words");
-        let untouched = tables.nodes.iter().chain(&tables.commands).all(|&word| word == 7);
+        let untouched = tables.nodes.iter().all(|&word| word == 7) && tables.commands.iter().all(|&word| word == 7);
         assert!(untouched && tables.answer.iter().all(|&word| word == 7), "{nodes}, {commands} and {answer} words: written");
     }
 }
@@ -193,7 +193,7 @@ fn compare(count: usize, seed: u64) -> bool {
         let tables = if random.below(8) == 0 { &mut larger } else { &mut exact };
         if random.below(64) == 0 {
             tables.nodes.fill_with(|| random.next() as u32);
-            tables.commands.fill_with(|| random.next() as u32);
+            tables.commands.fill_with(|| random.next() as u16);
             tables.answer.fill_with(|| random.next() as usize);
         }
         let number = tables.read(&text);

@@ -37,7 +37,7 @@ pub const REPORT_BYTES: usize = 65536;
 // The answer of command k: an assumption is accepted, a step is answered by its rule.
 fn answer_of(
     nodes: &[u32],
-    commands: &[u32],
+    commands: &[u16],
     n: usize,
     k: usize,
     coeffs: &mut [i64],
@@ -98,7 +98,7 @@ fn put_answer(numbers: &mut [u8], plains: &mut [bool], k: usize, answer: Answer)
 // The answers of all n commands, with the slices that sums are made in.
 fn answer_all(
     nodes: &[u32],
-    commands: &[u32],
+    commands: &[u16],
     n: usize,
     numbers: &mut [u8],
     plains: &mut [bool],
@@ -146,7 +146,7 @@ fn answer_all(
 // The answers of all n commands.
 fn answer_commands(
     nodes: &[u32],
-    commands: &[u32],
+    commands: &[u16],
     n: usize,
     numbers: &mut [u8],
     plains: &mut [bool],
@@ -202,7 +202,7 @@ fn all_hold(marks: &[bool], premises: &[u32]) -> bool
 }
 
 // Whether command k holds: an assumption when it is a statement; a step when accepted, plain and each cited premise holds.
-fn holds(nodes: &[u32], commands: &[u32], n: usize, k: usize, plain: bool, marks: &[bool]) -> bool
+fn holds(nodes: &[u32], commands: &[u16], n: usize, k: usize, plain: bool, marks: &[bool]) -> bool
     requires { ⌜ Filed (now nodes) (now commands) n × (k < n) × (k ≤ length (now marks)) ⌝ }
     ensures { λ r. ⌜ HoldsIs (now (nodes .entry)) (now (commands .entry)) n k plain (now (marks .entry)) r ⌝ }
 {
@@ -217,7 +217,7 @@ fn holds(nodes: &[u32], commands: &[u32], n: usize, k: usize, plain: bool, marks
 }
 
 // The marks of all n commands, from above to below.
-fn mark_commands(nodes: &[u32], commands: &[u32], n: usize, plains: &[bool], marks: &mut [bool])
+fn mark_commands(nodes: &[u32], commands: &[u16], n: usize, plains: &[bool], marks: &mut [bool])
     requires { ⌜ Filed (now nodes) (now commands) n ⌝ }
     requires { ⌜ (n ≤ length (now plains)) × (n ≤ length (now marks)) ⌝ }
     ensures { λ _. ⌜ MarksAre (now (nodes .entry)) (now (commands .entry)) n n (now (plains .entry)) (now (marks .exit)) ⌝ }
@@ -232,7 +232,7 @@ fn mark_commands(nodes: &[u32], commands: &[u32], n: usize, plains: &[bool], mar
 
 // ---- refutation
 // Whether command k is marked and its clause is a contradiction.
-fn refutes(nodes: &[u32], commands: &[u32], n: usize, marks: &[bool], k: usize) -> bool
+fn refutes(nodes: &[u32], commands: &[u16], n: usize, marks: &[bool], k: usize) -> bool
     requires { ⌜ Filed (now nodes) (now commands) n × (k < n) × (n ≤ length (now marks)) ⌝ }
     ensures { λ r. ⌜ RefutesIs (now (nodes .entry)) (now (commands .entry)) n (now (marks .entry)) k r ⌝ }
 {
@@ -243,7 +243,7 @@ fn refutes(nodes: &[u32], commands: &[u32], n: usize, marks: &[bool], k: usize) 
 }
 
 // Whether one of the n commands does.
-fn refuted_by(nodes: &[u32], commands: &[u32], n: usize, marks: &[bool]) -> bool
+fn refuted_by(nodes: &[u32], commands: &[u16], n: usize, marks: &[bool]) -> bool
     requires { ⌜ Filed (now nodes) (now commands) n × (n ≤ length (now marks)) ⌝ }
     ensures { λ r. ⌜ RefutedIs (now (nodes .entry)) (now (commands .entry)) n (now (marks .entry)) n r ⌝ }
 {
@@ -259,7 +259,7 @@ fn refuted_by(nodes: &[u32], commands: &[u32], n: usize, marks: &[bool]) -> bool
 
 // ---- the report
 // Writes the report of a file in the tables: answers, marks, whether it is refuted, then the lines.
-fn report_file(text: &[u8], nodes: &[u32], commands: &[u32], n: usize, report: &mut [u8]) -> usize
+fn report_file(text: &[u8], nodes: &[u32], commands: &[u16], n: usize, report: &mut [u8]) -> usize
     requires { ⌜ File (now text) (now nodes) (now commands) n × (minReport ≤ length (now report)) ⌝ }
     ensures { λ r. ⌜ Wrote (now (report .entry)) 0 (reportLines (commandLines (now (text .entry)) (now (nodes .entry)) (now (commands .entry)) n)) (now (report .exit)) r ⌝ }
 {
@@ -282,7 +282,7 @@ fn report_file(text: &[u8], nodes: &[u32], commands: &[u32], n: usize, report: &
 }
 
 // Reads a text and writes its report.
-fn report_text(text: &[u8], nodes: &mut [u32], commands: &mut [u32], report: &mut [u8]) -> usize
+fn report_text(text: &[u8], nodes: &mut [u32], commands: &mut [u16], report: &mut [u8]) -> usize
     requires { ⌜ (minReport ≤ length (now report)) × (minTable ≤ length (now nodes)) × (allWords ≤ length (now commands)) ⌝ }
     ensures { λ r. ⌜ Wrote (now (report .entry)) 0 (reportOf (now (text .entry))) (now (report .exit)) r ⌝ }
 {
@@ -310,6 +310,6 @@ pub extern "C" fn cutting_planes_check(text: &[u8], nodes: &mut [u32], report: &
     if nodes.len() < NODE_WORDS {
         return 0;
     }
-    let mut commands = [0u32; COMMAND_WORDS];
+    let mut commands = [0u16; COMMAND_WORDS];
     report_text(text, nodes, &mut commands, report)
 }

@@ -33,19 +33,24 @@ fn put_word(word: u32) {
     put_number(b" ", word as u64);
 }
 
-// Writes the words from..to.
-fn put_words(words: &[u32], from: usize, to: usize)
+// Writes a word of two bytes behind a blank.
+fn put_short(word: u16) {
+    put_number(b" ", word as u64);
+}
+
+// Writes the words from..to, of two bytes each.
+fn put_words(words: &[u16], from: usize, to: usize)
     requires { ⌜ to ≤ length (now words) ⌝ }
 {
     let mut i = from;
     while i < to {
-        put_word(words[i]);
+        put_short(words[i]);
         i += 1;
     }
 }
 
 // A line for each of the k commands: the bytes of its id, its kind and its parts.
-fn put_commands(commands: &[u32], k: usize)
+fn put_commands(commands: &[u16], k: usize)
     requires { ⌜ (k ≤ maxCommands) × (allWords ≤ length (now commands)) ⌝ }
 {
     let mut i = 0;
@@ -65,7 +70,9 @@ fn put_nodes(nodes: &[u32], n: usize)
     let mut i = 0;
     while i < n {
         put(b"node");
-        put_words(nodes, 3 * i, 3 * i + 3);
+        put_word(nodes[3 * i]);
+        put_word(nodes[3 * i + 1]);
+        put_word(nodes[3 * i + 2]);
         put(b"\n");
         i += 1;
     }
@@ -85,7 +92,7 @@ fn put_children(nodes: &[u32], c: usize)
 }
 
 // The line of the counts, then those of the commands, the nodes and the child words.
-fn put_tables(nodes: &[u32], commands: &[u32], k: usize, n: usize, c: usize)
+fn put_tables(nodes: &[u32], commands: &[u16], k: usize, n: usize, c: usize)
     requires { ⌜ (k ≤ maxCommands) × (allWords ≤ length (now commands)) × (n ≤ maxNodes) × (c ≤ maxNodes) × (minTable ≤ length (now nodes)) ⌝ }
 {
     put_number(b"commands=", k as u64);
@@ -105,7 +112,7 @@ fn put_refusal(number: u8, byte: usize) {
 }
 
 // Reads a text into the lent tables and prints what was read.
-fn put_read(text: &[u8], nodes: &mut [u32], commands: &mut [u32]) {
+fn put_read(text: &[u8], nodes: &mut [u32], commands: &mut [u16]) {
     match read_file(text, nodes, commands) {
         Whole::All(k, n, c) => put_tables(nodes, commands, k, n, c),
         Whole::Refused(number, byte) => put_refusal(number, byte),
@@ -116,7 +123,7 @@ fn put_read(text: &[u8], nodes: &mut [u32], commands: &mut [u32]) {
 fn main() {
     let mut text = [0u8; TEXT_BYTES];
     let mut nodes = [0u32; NODE_WORDS];
-    let mut commands = [0u32; COMMAND_WORDS];
+    let mut commands = [0u16; COMMAND_WORDS];
     let got = io::read_full(STDIN_FILENO, &mut text);
     put_read(&text[..got], &mut nodes, &mut commands);
 }

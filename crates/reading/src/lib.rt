@@ -19,7 +19,7 @@ const TOO_SMALL: usize = 1;
 pub extern "C" fn cutting_planes_read(
     text: &[u8],
     nodes: &mut [u32],
-    commands: &mut [u32],
+    commands: &mut [u16],
     answer: &mut [usize],
 ) -> usize
     ensures { λ r. ⌜ Answers (now (text .entry)) (now (nodes .entry)) (now (nodes .exit)) (now (commands .entry)) (now (commands .exit)) (now (answer .entry)) (now (answer .exit)) r ⌝ }

@@ -1,7 +1,7 @@
 // The report: a line for each command and the totals, or the line of a refused file, in the bytes of a lent slice (01, section 6).
 use links::KIND_WORD;
 use links::word_of;
-use nodes::wide;
+use nodes::wide_short;
 ghost use mathlib.Core.Path.{_≡_};
 ghost use mathlib.Core.List.{List, [], _∷_, _++_};
 ghost use Prim.Native.Nat.{_+_, _*_, _≤_, _<_};
@@ -94,14 +94,14 @@ fn append_rule(report: &mut [u8], at: usize, kind: usize) -> usize
 
 // ---- lines
 // Writes the line of command k up to its rule.
-fn write_start(report: &mut [u8], at: usize, text: &[u8], commands: &[u32], k: usize) -> usize
+fn write_start(report: &mut [u8], at: usize, text: &[u8], commands: &[u16], k: usize) -> usize
     requires { ⌜ IdShown (now text) (now commands) k ⌝ }
     requires { ⌜ at + startRoom ≤ length (now report) ⌝ }
     ensures { λ r. ⌜ Wrote (now (report .entry)) at (startText (stringAt (now (text .entry)) (now (commands .entry)) k) (nameOf (wordAt (now (commands .entry)) k kindWord))) (now (report .exit)) r ⌝ }
     ensures { λ r. ⌜ r ≤ at + startRoom ⌝ }
 {
-    let from = wide(commands[2 * k]);
-    let to = wide(commands[2 * k + 1]);
+    let from = wide_short(commands[2 * k]);
+    let to = wide_short(commands[2 * k + 1]);
     let kind = word_of(commands, k, KIND_WORD);
     let id_at = append(report, at, b"id=");
     let after_id = append(report, id_at, &text[from..to]);
@@ -127,7 +127,7 @@ fn write_line(
     report: &mut [u8],
     at: usize,
     text: &[u8],
-    commands: &[u32],
+    commands: &[u16],
     k: usize,
     number: u8,
     plain: bool,
@@ -148,7 +148,7 @@ fn write_line(
 fn write_lines(
     report: &mut [u8],
     text: &[u8],
-    commands: &[u32],
+    commands: &[u16],
     n: usize,
     numbers: &[u8],
     plains: &[bool],
@@ -216,7 +216,7 @@ fn write_totals(report: &mut [u8], at: usize, n: usize, refused: usize, refuted:
 pub fn write_report(
     report: &mut [u8],
     text: &[u8],
-    commands: &[u32],
+    commands: &[u16],
     n: usize,
     numbers: &[u8],
     plains: &[bool],

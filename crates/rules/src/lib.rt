@@ -352,7 +352,7 @@ fn added(
 // The sum of two inequalities.
 pub fn cp_addition(
     nodes: &[u32],
-    commands: &[u32],
+    commands: &[u16],
     premises: &[u32],
     args: &[u32],
     conclusion: &[u32],
@@ -535,7 +535,7 @@ pub enum Scaled {
 // One premise, one argument that is a number from 0 on, one conclusion.
 fn scalar_of(
     nodes: &[u32],
-    commands: &[u32],
+    commands: &[u16],
     premises: &[u32],
     args: &[u32],
     conclusion: &[u32],
@@ -567,7 +567,7 @@ fn scalar_of(
 // An inequality times a number.
 pub fn cp_multiplication(
     nodes: &[u32],
-    commands: &[u32],
+    commands: &[u16],
     premises: &[u32],
     args: &[u32],
     conclusion: &[u32],
@@ -616,7 +616,7 @@ pub fn cp_multiplication(
 // One premise, one argument that is a number from 1 on, one conclusion.
 fn divisor_of(
     nodes: &[u32],
-    commands: &[u32],
+    commands: &[u16],
     premises: &[u32],
     args: &[u32],
     conclusion: &[u32],
@@ -651,7 +651,7 @@ fn divisor_of(
 // An inequality divided by a number, rounded up.
 pub fn cp_division(
     nodes: &[u32],
-    commands: &[u32],
+    commands: &[u16],
     premises: &[u32],
     args: &[u32],
     conclusion: &[u32],
@@ -707,7 +707,7 @@ pub enum Capped {
 // One premise, no argument, one conclusion.
 fn capped_terms(
     nodes: &[u32],
-    commands: &[u32],
+    commands: &[u16],
     premises: &[u32],
     args: &[u32],
     conclusion: &[u32],
@@ -793,7 +793,7 @@ fn capped_check(
 // An inequality with its coefficients capped by its constant.
 pub fn cp_saturation(
     nodes: &[u32],
-    commands: &[u32],
+    commands: &[u16],
     premises: &[u32],
     args: &[u32],
     conclusion: &[u32],
@@ -833,7 +833,7 @@ pub fn cp_saturation(
 // A relation and its normalized form are the same.
 pub fn cp_normalize(
     nodes: &[u32],
-    commands: &[u32],
+    commands: &[u16],
     premises: &[u32],
     args: &[u32],
     conclusion: &[u32],

@@ -32,7 +32,7 @@ pub const TRANSFER: usize = 6;
 // The answer by a rule that reads no sum.
 fn check_terms(
     nodes: &[u32],
-    commands: &[u32],
+    commands: &[u16],
     rule: usize,
     premises: &[u32],
     args: &[u32],
@@ -55,7 +55,7 @@ fn check_terms(
 // The answer by a rule that maps the sum of one premise: multiplication, division or saturation.
 fn check_map(
     nodes: &[u32],
-    commands: &[u32],
+    commands: &[u16],
     rule: usize,
     premises: &[u32],
     args: &[u32],
@@ -122,7 +122,7 @@ fn check_map(
 // The answer of command k, a step: its rule over the premises' clauses, the arguments and the conclusion.
 pub fn check_step(
     nodes: &[u32],
-    commands: &[u32],
+    commands: &[u16],
     k: usize,
     coeffs: &mut [i64],
     keys: &mut [u32],

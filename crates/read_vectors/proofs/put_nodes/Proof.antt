@@ -20,17 +20,47 @@ slice-aggregate-put c = search needs
 put-requires : tie.Need-put-requires Inv-loop μ-loop
 put-requires c κs = search needs
 
-mul-put-words : tie.Need-mul-put-words Inv-loop μ-loop
-mul-put-words c = omega arith
+mul-put-word : tie.Need-mul-put-word Inv-loop μ-loop
+mul-put-word c = omega arith
 
-mul-put-words-2 : tie.Need-mul-put-words-2 Inv-loop μ-loop
-mul-put-words-2 c = omega arith
+mul-put-word-2 : tie.Need-mul-put-word-2 Inv-loop μ-loop
+mul-put-word-2 c = omega arith
 
-add-put-words : tie.Need-add-put-words Inv-loop μ-loop
-add-put-words c = omega arith
+shared-slice-read-put-word : tie.Need-shared-slice-read-put-word Inv-loop μ-loop
+shared-slice-read-put-word c = omega arith
 
-put-words-requires : tie.Need-put-words-requires Inv-loop μ-loop
-put-words-requires c κs = search needs
+put-word-requires : tie.Need-put-word-requires Inv-loop μ-loop
+put-word-requires c κs = search needs
+
+mul-put-word-3 : tie.Need-mul-put-word-3 Inv-loop μ-loop
+mul-put-word-3 c = omega arith
+
+add-put-word : tie.Need-add-put-word Inv-loop μ-loop
+add-put-word c = omega arith
+
+mul-put-word-4 : tie.Need-mul-put-word-4 Inv-loop μ-loop
+mul-put-word-4 c = omega arith
+
+shared-slice-read-put-word-2 : tie.Need-shared-slice-read-put-word-2 Inv-loop μ-loop
+shared-slice-read-put-word-2 c = omega arith
+
+put-word-requires-2 : tie.Need-put-word-requires-2 Inv-loop μ-loop
+put-word-requires-2 c κs = search needs
+
+mul-put-word-5 : tie.Need-mul-put-word-5 Inv-loop μ-loop
+mul-put-word-5 c = omega arith
+
+add-put-word-2 : tie.Need-add-put-word-2 Inv-loop μ-loop
+add-put-word-2 c = omega arith
+
+mul-put-word-6 : tie.Need-mul-put-word-6 Inv-loop μ-loop
+mul-put-word-6 c = omega arith
+
+shared-slice-read-put-word-3 : tie.Need-shared-slice-read-put-word-3 Inv-loop μ-loop
+shared-slice-read-put-word-3 c = omega arith
+
+put-word-requires-3 : tie.Need-put-word-requires-3 Inv-loop μ-loop
+put-word-requires-3 c κs = search needs
 
 slice-aggregate-put-2 : tie.Need-slice-aggregate-put-2 Inv-loop μ-loop
 slice-aggregate-put-2 c = search needs
@@ -59,10 +89,20 @@ put-nodes-spec =
     loop-holds
     slice-aggregate-put
     put-requires
-    mul-put-words
-    mul-put-words-2
-    add-put-words
-    put-words-requires
+    mul-put-word
+    mul-put-word-2
+    shared-slice-read-put-word
+    put-word-requires
+    mul-put-word-3
+    add-put-word
+    mul-put-word-4
+    shared-slice-read-put-word-2
+    put-word-requires-2
+    mul-put-word-5
+    add-put-word-2
+    mul-put-word-6
+    shared-slice-read-put-word-3
+    put-word-requires-3
     slice-aggregate-put-2
     put-requires-2
     add-i

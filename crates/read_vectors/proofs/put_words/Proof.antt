@@ -14,14 +14,14 @@ abbrev μ-loop : tie.MeasureT-loop
 loop-holds : tie.Need-loop-holds Inv-loop μ-loop
 loop-holds c = omega arith
 
-mul-put-word : tie.Need-mul-put-word Inv-loop μ-loop
-mul-put-word c = omega arith
+mul-put-short : tie.Need-mul-put-short Inv-loop μ-loop
+mul-put-short c = omega arith
 
-shared-slice-read-put-word : tie.Need-shared-slice-read-put-word Inv-loop μ-loop
-shared-slice-read-put-word c = search needs
+shared-slice-read-put-short : tie.Need-shared-slice-read-put-short Inv-loop μ-loop
+shared-slice-read-put-short c = search needs
 
-put-word-requires : tie.Need-put-word-requires Inv-loop μ-loop
-put-word-requires c κs = search needs
+put-short-requires : tie.Need-put-short-requires Inv-loop μ-loop
+put-short-requires c κs = search needs
 
 add-i : tie.Need-add-i Inv-loop μ-loop
 add-i c = omega arith
@@ -42,9 +42,9 @@ put-words-spec =
     Inv-loop
     μ-loop
     loop-holds
-    mul-put-word
-    shared-slice-read-put-word
-    put-word-requires
+    mul-put-short
+    shared-slice-read-put-short
+    put-short-requires
     add-i
     loop-less
     loop-again

@@ -6,32 +6,32 @@ use borrow.Author.Needs.{needs}
 use Rattle.report.proofs.write_start.Statement.{statement}
 use Rattle.report.proofs.write_start.Tie as tie
 
-mul-wide : tie.Need-mul-wide
-mul-wide c = search needs
+mul-wide-short : tie.Need-mul-wide-short
+mul-wide-short c = search needs
 
-mul-wide-2 : tie.Need-mul-wide-2
-mul-wide-2 c = search needs
+mul-wide-short-2 : tie.Need-mul-wide-short-2
+mul-wide-short-2 c = search needs
 
-shared-slice-read-wide : tie.Need-shared-slice-read-wide
-shared-slice-read-wide c = search needs
+shared-slice-read-wide-short : tie.Need-shared-slice-read-wide-short
+shared-slice-read-wide-short c = search needs
 
-wide-requires : tie.Need-wide-requires
-wide-requires c κs = search needs
+wide-short-requires : tie.Need-wide-short-requires
+wide-short-requires c κs = search needs
 
-mul-wide-3 : tie.Need-mul-wide-3
-mul-wide-3 c = search needs
+mul-wide-short-3 : tie.Need-mul-wide-short-3
+mul-wide-short-3 c = search needs
 
-add-wide : tie.Need-add-wide
-add-wide c = search needs
+add-wide-short : tie.Need-add-wide-short
+add-wide-short c = search needs
 
-mul-wide-4 : tie.Need-mul-wide-4
-mul-wide-4 c = search needs
+mul-wide-short-4 : tie.Need-mul-wide-short-4
+mul-wide-short-4 c = search needs
 
-shared-slice-read-wide-2 : tie.Need-shared-slice-read-wide-2
-shared-slice-read-wide-2 c = search needs
+shared-slice-read-wide-short-2 : tie.Need-shared-slice-read-wide-short-2
+shared-slice-read-wide-short-2 c = search needs
 
-wide-requires-2 : tie.Need-wide-requires-2
-wide-requires-2 c κs = search needs
+wide-short-requires-2 : tie.Need-wide-short-requires-2
+wide-short-requires-2 c κs = search needs
 
 word-of-requires : tie.Need-word-of-requires
 word-of-requires c κs = search needs
@@ -67,21 +67,21 @@ same-length : tie.Need-same-length
 same-length c = search needs
 
 returns : tie.Need-returns
-returns c = (wrote-as (start-parts ((c .before .before .before .before .before .before .before .before .before .before .before .before .before .before .before .before .before .before .before .before .before .before .before .before .before .before .before .pre) .0) ((c .before .before .before .before .before .before .before .before .before .before .before .before .before .before .before .before .before .before .before .before .before .before .wide) .ensures) ((c .before .before .before .before .before .before .before .before .before .before .before .before .before .before .before .before .before .before .before .before .wide2) .ensures) ((c .before .before .before .before .before .before .before .before .before .before .before .before .before .before .before .before .before .before .before .word-of) .ensures)) ((c .before .before .before .before .before .before .before .before .before .before .before .before .before .before .before .before .append) .ensures ⨟ (c .before .before .before .before .before .before .before .before .before .before .before .append2) .ensures ⨟ (c .before .before .before .before .before .before .append3) .ensures ⨟ (c .before .before .append-rule) .ensures .0), omega arith)
+returns c = (wrote-as (start-parts ((c .before .before .before .before .before .before .before .before .before .before .before .before .before .before .before .before .before .before .before .before .before .before .before .before .before .before .before .pre) .0) ((c .before .before .before .before .before .before .before .before .before .before .before .before .before .before .before .before .before .before .before .before .before .before .wide-short) .ensures) ((c .before .before .before .before .before .before .before .before .before .before .before .before .before .before .before .before .before .before .before .before .wide-short2) .ensures) ((c .before .before .before .before .before .before .before .before .before .before .before .before .before .before .before .before .before .before .before .word-of) .ensures)) ((c .before .before .before .before .before .before .before .before .before .before .before .before .before .before .before .before .append) .ensures ⨟ (c .before .before .before .before .before .before .before .before .before .before .before .append2) .ensures ⨟ (c .before .before .before .before .before .before .append3) .ensures ⨟ (c .before .before .append-rule) .ensures .0), omega arith)
 
 pub write-start-spec : {M : Type 1} → statement M
 write-start-spec =
     tie.close
     (tie.spec
-    mul-wide
-    mul-wide-2
-    shared-slice-read-wide
-    wide-requires
-    mul-wide-3
-    add-wide
-    mul-wide-4
-    shared-slice-read-wide-2
-    wide-requires-2
+    mul-wide-short
+    mul-wide-short-2
+    shared-slice-read-wide-short
+    wide-short-requires
+    mul-wide-short-3
+    add-wide-short
+    mul-wide-short-4
+    shared-slice-read-wide-short-2
+    wide-short-requires-2
     word-of-requires
     slice-aggregate-append
     append-requires
