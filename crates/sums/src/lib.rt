@@ -82,19 +82,12 @@ fn walk(nodes: &[u32], keys: &[u32], n: usize, key: u32) -> usize
     i
 }
 
-// A slot's word as an index.
-fn wide(x: u16) -> usize
-    ensures { λ r. ⌜ r ≡ x ⌝ }
-{
-    x as usize
-}
-
 // Where the first key with a slot stands; the count where none has it.
 fn first_at(nodes: &[u32], keys: &[u32], slots: &[u16], n: usize, slot: usize) -> usize
     requires { ⌜ Keyed (now nodes) (now keys) (now slots) n × (slot ≤ noSlot) ⌝ }
     ensures { λ r. ⌜ FirstIs (now (nodes .entry)) (now (keys .entry)) (now (slots .entry)) n slot r ⌝ }
 {
-    let place = wide(slots[slot]);
+    let place = nodes::wide_short(slots[slot]);
     if place < n {
         if slot_of(nodes, keys[place]) == slot {
             return place;
