@@ -1,20 +1,20 @@
 -- Slots: a key's slot by its name's number and sign. One literal has one slot; names share slots, so that one slot may have several literals.
 -- From it: what looking up by slots, and by walking, finds, and which slot a new key takes.
-use mathlib.Core.Path.{_≡_, refl, sym, _∙_, subst}
+use mathlib.Core.Path.{_≡_, refl, sym, ap, _∙_, subst}
 use mathlib.Core.Bool.{Bool, true, false, not, cond, _&&_, Bool·beq}
 use mathlib.Core.List.{List}
 use Prim.Native.Nat.{ℕ, suc, _+_, _*_, _-_, _%_, _≤_, _<_}
 use native.Mathlib.Decide.{decLt}
 use native.Mathlib.Omega.{arith}
 use borrow.Author.Tests.{eqb-true, eqb-false, lt-ltb, le-ltb}
-use lib.Dec.{T}
+use lib.Dec.{T, eqb}
 use lib.IntN.{ℤ}
 use lib.ListN.{getD}
 use Rattle.calculus.specs.Equality.{sameTerm}
 use Rattle.calculus.specs.Sums.{sameLit}
 use Rattle.calculus.proofs.Booleans.{and-l, and-r, beq-eq, beq-refl, is-true}
 use Rattle.nodes.specs.Nodes.{nameKind, kindAt, Node}
-use Rattle.nodes.proofs.Comparing.{equal-other}
+use Rattle.nodes.proofs.Comparing.{equal-other, equal-name}
 use Rattle.matching.specs.Matched.{Text, term, variableOf, negatedOf, litAt}
 use Rattle.matching.specs.Entries.{run, entryAt, entries, Under}
 use Rattle.sums.specs.Lists.{indexOf, slotNames, noSlot, slotAt, Taken, Fine}
@@ -100,6 +100,27 @@ module _ (t : List ℕ) (k l : ℕ) where
       rw (beq-true (negatedOf k) (negatedOf l) e)
       ((rw (p, q) at (S (x .text) (x .n) (x .named) (omega arith) (omega arith))) ∙ and-true (sameTerm (term x (variableOf k)) (term x (variableOf l))))
 
+-- the answers where the first is over a name: by the kinds
+module _ (t : List ℕ) (k l : ℕ) where
+  pub signs-differ : (k % 2 ≡ l % 2 → ⊥) → SameIs t k l false
+  signs-differ f = same-sign-differs t k l (λ e. f (same-sign k l e))
+
+  slot-named : slotAt t k < noSlot → nameKind ≤ kindAt t (variableOf k)
+  slot-named h = elim (decLt (kindAt t (variableOf k)) nameKind) [
+    | yes g ↦ omega (arith, slot-term t k (kindAt t (variableOf k)) refl g)
+    | no g ↦ omega arith
+  ]
+
+  pub same-kinds : Node t (variableOf k) → Node t (variableOf l) → slotAt t k < noSlot → (a b : ℕ) → a ≡ kindAt t (variableOf k) → b ≡ kindAt t (variableOf l)
+      → k % 2 ≡ l % 2 → SameIs t k l (eqb a b)
+  same-kinds N M h a b p q e = go (eqb a b) refl
+    where
+      go : (r : Bool) → eqb a b ≡ r → SameIs t k l r
+      go true z = same-terms t k l true (variableOf k) (variableOf l) refl refl (ap (λ (s : ℕ). eqb s 1) e)
+          (equal-name (pair-nodes N M) (sym p ∙ eqb-true a b z ∙ q) (slot-named h))
+      go false z = same-terms t k l false (variableOf k) (variableOf l) refl refl (ap (λ (s : ℕ). eqb s 1) e)
+          (equal-other (pair-nodes N M) (λ y. eqb-false a b z (p ∙ y ∙ sym q)))
+
 -- one literal, one slot
 literal-slot : {t : List ℕ} (k l : ℕ) → Node t (variableOf k) → Node t (variableOf l) → (x : Text t) → variableOf k < x .n → variableOf l < x .n
     → sameLit (litAt (term x) k) (litAt (term x) l) ≡ true → slotAt t l ≡ slotAt t k
@@ -144,29 +165,30 @@ module _ {t ks sl : List ℕ} {n : ℕ} (F : Fine t ks sl n) (slot p : ℕ) (e :
   }
 
 -- ---- looking up by slots
-module _ {t ks sl : List ℕ} {n : ℕ} (k : ℕ) (N : Node t (variableOf k)) (F : Fine t ks sl n) (slot : ℕ) (e : slot ≡ slotAt t k) (h : slot < noSlot) (p : ℕ) (P : FirstIs t ks sl n slot p) where
-  -- what stands before the first with this slot is another literal
-  literal-other : (x : Text t) → Under (x .n) ks n → variableOf k < x .n → (m : ℕ) → m < n → m < p
+module _ {t ks sl : List ℕ} {n : ℕ} (k : ℕ) (N : Node t (variableOf k)) (F : Fine t ks sl n) (slot : ℕ) (e : slot ≡ slotAt t k) (h : slot < noSlot) where
+  -- what stands before each with this slot is another literal
+  literal-other : (p : ℕ) → ((m : ℕ) → m < n → slotAt t (getD ks m 0) ≡ slot → p ≤ m) → (x : Text t) → Under (x .n) ks n → variableOf k < x .n → (m : ℕ) → m < n → m < p
       → sameLit (litAt (term x) k) (litAt (term x) (getD ks m 0)) ≡ false
-  literal-other x under a m l f = go (sameLit (litAt (term x) k) (litAt (term x) (getD ks m 0))) refl
+  literal-other p least x under a m l f = go (sameLit (litAt (term x) k) (litAt (term x) (getD ks m 0))) refl
     where
       go : (b : Bool) → sameLit (litAt (term x) k) (litAt (term x) (getD ks m 0)) ≡ b → b ≡ false
-      go true q = let z : ⊥ = omega (arith, P .least h m l (literal-slot k (getD ks m 0) N (F .nodes m l) x a (under m l) q ∙ sym e)) in absurd z
+      go true q = let z : ⊥ = omega (arith, least m l (literal-slot k (getD ks m 0) N (F .nodes m l) x a (under m l) q ∙ sym e)) in absurd z
       go false q = refl
 
-  pub find-here : p < n → SameIs t k (getD ks p 0) true → FindIs t ks n k p
-  find-here l S = record {
-    is = λ x cs under a. sym (index-first (litAt (term x) k) (entryAt (term x) cs ks) 0 n p l
-        (λ m b c. literal-other x under a m (omega arith) (omega arith))
-        (let z : 0 + p ≡ p = omega arith in rw z (sym (S x a (under p l)))));
-    most = omega arith;
-  }
+  module _ (p : ℕ) (w : p ≡ getD sl slot 0) where
+    pub find-here : p < n → SameIs t k (getD ks p 0) true → FindIs t ks n k p
+    find-here l S = record {
+      is = λ x cs under a. sym (index-first (litAt (term x) k) (entryAt (term x) cs ks) 0 n p l
+          (λ m b c. literal-other p (slot-least F slot p w h) x under a m (omega arith) (omega arith))
+          (let z : 0 + p ≡ p = omega arith in rw z (sym (S x a (under p l)))));
+      most = omega arith;
+    }
 
-  pub find-none : n ≤ p → FindIs t ks n k n
-  find-none l = record {
-    is = λ x cs under a. sym (index-none (litAt (term x) k) (entryAt (term x) cs ks) 0 n (λ m b c. literal-other x under a m (omega arith) (omega arith)));
-    most = omega arith;
-  }
+    pub find-none : (p < n → slotAt t (getD ks p 0) ≡ slot → ⊥) → FindIs t ks n k n
+    find-none f = record {
+      is = λ x cs under a. sym (index-none (litAt (term x) k) (entryAt (term x) cs ks) 0 n (λ m b c. literal-other n (first-none F slot p w f .least h) x under a m (omega arith) (omega arith)));
+      most = omega arith;
+    }
 
 -- ---- the slot of a new key
 module _ {t ks sl : List ℕ} {n : ℕ} (k slot : ℕ) (e : slot ≡ slotAt t k) (p : ℕ) (P : FirstIs t ks sl n slot p) where

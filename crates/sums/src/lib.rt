@@ -66,6 +66,19 @@ fn same_literal(nodes: &[u32], key: u32, other: u32) -> bool
     )
 }
 
+// Whether a key over a name and another are the same literal: by their kinds, without following children.
+fn same_name(nodes: &[u32], key: u32, other: u32) -> bool
+    requires { ⌜ Node (now nodes) (variableOf key) × (slotAt (now nodes) key < noSlot) ⌝ }
+    requires { ⌜ Node (now nodes) (variableOf other) ⌝ }
+    ensures { λ r. ⌜ SameIs (now (nodes .entry)) key other r ⌝ }
+{
+    if key % 2 != other % 2 {
+        return false;
+    }
+    let kind = nodes::kind_of(nodes, nodes::wide(matching::variable_of(key)));
+    kind == nodes::kind_of(nodes, nodes::wide(matching::variable_of(other)))
+}
+
 // Where a key stands, by walking; the count where it is none.
 fn walk(nodes: &[u32], keys: &[u32], n: usize, key: u32) -> usize
     requires { ⌜ Node (now nodes) (variableOf key) ⌝ }
@@ -104,13 +117,16 @@ pub fn find(nodes: &[u32], keys: &[u32], slots: &[u16], n: usize, key: u32) -> u
 {
     let slot = slot_of(nodes, key);
     if slot < NO_SLOT {
-        let place = first_at(nodes, keys, slots, n, slot);
+        let place = nodes::wide_short(slots[slot]);
         if place >= n {
             return n;
         }
-        let same = same_literal(nodes, key, keys[place]);
+        let same = same_name(nodes, key, keys[place]);
         if same {
             return place;
+        }
+        if slot_of(nodes, keys[place]) != slot {
+            return n;
         }
     }
     walk(nodes, keys, n, key)
