@@ -74,7 +74,9 @@ fn growth(checker: &mut cutting_planes::Checker) {
 /// The medians for one text, on which both have to agree first.
 fn times(checker: &mut cutting_planes::Checker, text: &Text) -> Times {
     let bytes = &text.bytes[..];
-    assert!(checker.check_text(bytes) == oracle::report(bytes), "{}: the two reports differ", text.name);
+    let report = checker.check_text(bytes);
+    assert!(report == oracle::report(bytes), "{}: the two reports differ", text.name);
+    assert!(report.starts_with(b"refused=") == text.name.contains("refused"), "{}: refused, or not", text.name);
     let (mut library, mut rust, mut reading) = (Vec::new(), Vec::new(), Vec::new());
     let end = Instant::now() + TIME;
     while library.len() < PARTS || Instant::now() < end {

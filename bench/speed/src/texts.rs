@@ -44,25 +44,23 @@ fn additions(steps: usize) -> String {
 /// A multiplication by 2 of a sum of so many summands, over so many names.
 fn multiplication(summands: usize, names: usize, name: impl Fn(usize) -> String) -> String {
     let total = |by: usize| sum((0..summands).map(|i| ((i % 7 + 1) * by, name(i % names))));
-    format!(
-        "(assume a (>= {} 3))\n(step b (cl (>= {} 6)) :rule cp_multiplication :premises (a) :args (2))\n",
-        total(1),
-        total(2)
-    )
+    format!("(assume a (>= {} 3))\n(step b (cl (>= {} 6)) :rule cp_multiplication :premises (a) :args (2))\n", total(1), total(2))
 }
 
-/// Small steps of four rules up to so many bytes: what a solver's log looks like.
+/// Small steps of four rules up to so many bytes: what a solver's log looks like. The names are long enough that 32 KB have no more than 4,096 nodes.
 pub fn small_steps(bytes: usize) -> String {
-    let mut out = String::from("(assume a (>= (+ (* 1 x) (* 1 y)) 1))\n");
+    let (x, y) = ("capacity", "workload");
+    let mut out = format!("(assume a (>= (+ (* 1 {x}) (* 1 {y})) 1))\n");
     for step in 0.. {
         let by = step % 50 + 1;
-        let line = match step % 4 {
-            0 => format!("(step s{step} (cl (>= (+ (* {by} x) (* {by} y)) {by})) :rule cp_multiplication :premises (a) :args ({by}))\n"),
-            1 => format!("(step s{step} (cl (>= (+ (* 2 x) (* 2 y)) 2)) :rule cp_addition :premises (a a))\n"),
-            2 => format!("(step s{step} (cl (>= (* 1 (- 1 x)) 0)) :rule cp_literal :args ((- 1 x)))\n"),
-            _ => format!("(step s{step} (cl (= (< (* {by} x) 3) (>= (* {by} (- 1 x)) {})))  :rule cp_normalize)\n", by as i64 - 2),
+        let (clause, rule) = match step % 4 {
+            0 => (format!("(>= (+ (* {by} {x}) (* {by} {y})) {by})"), format!("cp_multiplication :premises (a) :args ({by})")),
+            1 => (format!("(>= (+ (* 2 {x}) (* 2 {y})) 2)"), "cp_addition :premises (a a)".into()),
+            2 => (format!("(>= (* 1 (- 1 {x})) 0)"), format!("cp_literal :args ((- 1 {x}))")),
+            _ => (format!("(= (< (* {by} {x}) 3) (>= (* {by} (- 1 {x})) {}))", by - 2), "cp_normalize".into()),
         };
-        if out.len() + line.len() > bytes || step == 511 {
+        let line = format!("(step s{step} (cl {clause}) :rule {rule})\n");
+        if out.len() + line.len() > bytes {
             break;
         }
         out += &line;
