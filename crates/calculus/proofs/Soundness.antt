@@ -1,6 +1,6 @@
 -- Demand 3: the report of every text is sound.
 -- A text is a file of at most one list of commands, the one that it is read as; its report's lines are those of the run; and what is marked there holds.
-use mathlib.Core.Path.{_≡_, sym, ap, subst, _∙_}
+use mathlib.Core.Path.{_≡_, refl, sym, ap, subst, _∙_}
 use mathlib.Core.Bool.{Bool, true, false, cond, _&&_}
 use mathlib.Core.List.{List, [], _∷_, _++_, map}
 use Prim.Native.Nat.{ℕ, _<_}
@@ -8,13 +8,16 @@ use native.Mathlib.Omega.{arith}
 use lib.Dec.{leb}
 use lib.ListN.{length, getD, length-append}
 use Rattle.calculus.specs.Claim.{Claim, Sound, EndsIn, linesOf, lastLine, holdsYes, refutedYes}
-use Rattle.calculus.specs.Commands.{Read}
+use Rattle.calculus.specs.Commands.{Read, whole, refused, readFile}
 use Rattle.calculus.specs.Marks.{run}
 use Rattle.calculus.specs.Report.{lineText, totalsText, reportLines, reportRead, reportOf, minReport, minTable, written}
 use Rattle.calculus.specs.Terms.{Command}
+use Rattle.calculus.specs.Truth.{Assignment, Models, Satisfies, clauseOf}
+use Rattle.calculus.specs.Writing.{IsRead}
+use Rattle.calculus.proofs.FaithfulFile.{faithful}
 use Rattle.calculus.proofs.ReadableFile.{complete}
 use Rattle.calculus.proofs.Demand.{demand3}
-use Rattle.calculus.proofs.Lines.{CleanLines, CleanIds, run-clean, render-lines, totals-line, last-line, ends-refuted, marked-line}
+use Rattle.calculus.proofs.Lines.{CleanLines, CleanIds, run-clean, render-lines, totals-line, last-line, ends-refuted, marked-line, refusal-not-refuted, refusal-not-marked}
 use Rattle.calculus.proofs.Names.{ids-clean}
 
 report-lines : (cs : List Command) → CleanIds cs → linesOf (reportLines (run [] cs)) ≡ map lineText (run [] cs) ++ (totalsText (run [] cs) ∷ [])
@@ -55,3 +58,22 @@ sound-written r n s = go (leb minReport r && leb minTable n)
     go : (c : Bool) → Sound s (cond c (reportOf s) [])
     go true = sound s
     go false = sound-nothing s
+
+-- ---- a text with a mark in its report is a file of commands: a refused text has none
+-- of a text whose report says refuted=yes: it is a file, and no assignment satisfies its assumptions that are statements
+pub refuted-file : (s : List ℕ) → EndsIn (lastLine (linesOf (reportOf s))) refutedYes → (cs : List Command) × (IsRead s cs × ((σ : Assignment) → ¬ (Models σ cs)))
+unfolding Sound reportOf reportRead
+refuted-file s k = go (readFile s) refl k
+  where
+    go : (z : Read) → readFile s ≡ z → EndsIn (lastLine (linesOf (reportRead z))) refutedYes → (cs : List Command) × (IsRead s cs × ((σ : Assignment) → ¬ (Models σ cs)))
+    go (whole cs) e h = let r : IsRead s cs = faithful s cs e in (cs, (r, sound s cs r .refuted k))
+    go (refused n p) e h = absurd (refusal-not-refuted n p h)
+
+-- of a text whose report says holds=yes in line i: it is a file, and an assignment that satisfies its assumptions that are statements satisfies command i
+pub marked-file : (s : List ℕ) (i : ℕ) → EndsIn (getD (linesOf (reportOf s)) i []) holdsYes → (cs : List Command) × (IsRead s cs × (i < length cs → (σ : Assignment) → Models σ cs → Satisfies σ (getD (map clauseOf cs) i [])))
+unfolding Sound reportOf reportRead
+marked-file s i k = go (readFile s) refl k
+  where
+    go : (z : Read) → readFile s ≡ z → EndsIn (getD (linesOf (reportRead z)) i []) holdsYes → (cs : List Command) × (IsRead s cs × (i < length cs → (σ : Assignment) → Models σ cs → Satisfies σ (getD (map clauseOf cs) i [])))
+    go (whole cs) e h = let r : IsRead s cs = faithful s cs e in (cs, (r, λ l. sound s cs r .marked i l k))
+    go (refused n p) e h = absurd (refusal-not-marked n p i h)
