@@ -2,7 +2,8 @@
 
 Compares the formal definitions with the reference by computation, on the examples of document 01 and
 COUNT generated texts. Each text becomes a theorem, `reportOf text ≡ the reference's report`, proved by
-computing both sides, in a temporary repository that holds copies of the crates. Prints what was
+computing both sides, in a temporary repository that holds copies of the crates, proved already where
+target/ has them so: rt goes by their bytes. Prints what was
 compared and each text that differs, or whose computation ended without a verdict (a text of several
 thousand bytes can be too long for the prover); the exit status is 0 only if all agree.
 """
@@ -20,7 +21,7 @@ from examples import examples
 from generate import texts
 from reference import report
 
-CRATES = os.path.join(os.path.dirname(os.path.abspath(__file__)), "..", "..", "crates")
+ROOT = os.path.join(os.path.dirname(os.path.abspath(__file__)), "..", "..")
 COPIED = ("integer", "calculus")
 ORDER = "integer:\ncalculus: integer\nsample: calculus integer\n"
 HEAD = """use mathlib.Core.Path.{_≡_, refl}
@@ -58,7 +59,12 @@ def write(folder, path, content):
 def write_repository(folder, proofs):
     """A repository with copies of the crates and one crate more, which only has the theorems."""
     for crate in COPIED:
-        shutil.copytree(os.path.join(CRATES, crate), os.path.join(folder, "crates", crate))
+        shutil.copytree(os.path.join(ROOT, "crates", crate), os.path.join(folder, "crates", crate))
+        stamp, library = (os.path.join("target", *parts) for parts in (("stamp", crate), ("rlib", crate + ".rlib")))
+        if os.path.exists(os.path.join(ROOT, stamp)):
+            shutil.copytree(os.path.join(ROOT, library), os.path.join(folder, library))
+            os.makedirs(os.path.join(folder, "target", "stamp"), exist_ok=True)
+            shutil.copy(os.path.join(ROOT, stamp), os.path.join(folder, stamp))
     write(folder, "crates.txt", ORDER)
     write(folder, "crates/sample/src/lib.rt", "// No function: the theorems stand in proofs/.\n")
     write(folder, "crates/sample/specs/Lib.antt", "")

@@ -10,7 +10,7 @@ use lib.ListN.{length, getD}
 use Rattle.calculus.specs.Terms.{Command, assume, step, idOf, sameName}
 use Rattle.calculus.specs.Writing.{known, allowed, allowedBehind}
 use Rattle.calculus.proofs.Booleans.{and-l, and-r, and-mk, is-false}
-use Rattle.calculus.proofs.FaithfulFile.{faithful}
+use Rattle.theorems.proofs.FaithfulFile.{faithful}
 use Rattle.nodes.proofs.Tables.{by-node}
 use Rattle.reader.specs.Commands.{commandOf, commandsOf}
 use Rattle.reader.specs.Reading.{ReadsFile}

@@ -12,7 +12,7 @@ use Rattle.calculus.specs.Marks.{Line, lineOf, run, noLine, pick, lineAt, claus
 use Rattle.calculus.specs.Terms.{Term, num, Command, sameName}
 use Rattle.calculus.specs.Truth.{isStatement}
 use Rattle.calculus.specs.Words.{ok}
-use Rattle.calculus.proofs.Readable.{T-true}
+use Rattle.calculus.proofs.Booleans.{is-true}
 use Rattle.calculus.proofs.TermLaws.{sameName-refl}
 use Rattle.heads.specs.Heads.{ruleNamed}
 use Rattle.nodes.specs.Nodes.{decode, Below}
@@ -116,7 +116,7 @@ module _ {s t w : List ℕ} {n : ℕ} (f : File s t w n) where
   pub line-cited : (k j : ℕ) → k ≤ n → j < k → lineAt (commandLines s t w k) (stringAt s w j) ≡ commandLine s t w j
   line-cited k j a h =
       line-found (commandLines s t w k) (stringAt s w j) j (omega (arith, lines-long s t w k)) others
-      (ap (λ (l : Line). sameName (l .id) (stringAt s w j)) (line-in s t w k j h) ∙ ap (λ (d : List ℕ). sameName d (stringAt s w j)) (id-is j) ∙ T-true (sameName (stringAt s w j) (stringAt s w j)) (sameName-refl (stringAt s w j)))
+      (ap (λ (l : Line). sameName (l .id) (stringAt s w j)) (line-in s t w k j h) ∙ ap (λ (d : List ℕ). sameName d (stringAt s w j)) (id-is j) ∙ is-true (sameName (stringAt s w j) (stringAt s w j)) (sameName-refl (stringAt s w j)))
       ∙ line-in s t w k j h
     where
       others : (i : ℕ) → i < j → sameName (getD (commandLines s t w k) i noLine .id) (stringAt s w j) ≡ false

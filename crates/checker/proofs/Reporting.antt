@@ -11,7 +11,7 @@ use Rattle.calculus.specs.Marks.{Line, lineOf}
 use Rattle.calculus.specs.Report.{minReport, minTable, reportLines, reportOf, reportRead, refusalText, written}
 use Rattle.calculus.specs.Terms.{Term}
 use Rattle.calculus.proofs.Booleans.{is-true, is-false}
-use Rattle.calculus.proofs.Soundness.{sound-written}
+use Rattle.theorems.proofs.Soundness.{sound-written}
 use Rattle.nodes.specs.Nodes.{decode}
 use Rattle.reader.specs.Commands.{allWords, wordAt, kindWord, clauseWord, premisesWord, argumentsWord, partAt, commandAs, commandOf}
 use Rattle.reader.specs.Reading.{ReadsFile}

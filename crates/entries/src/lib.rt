@@ -29,3 +29,16 @@ pub fn negate_sum(sum: &mut [Entry])
         i += 1;
     }
 }
+
+// How many entries are lent at once.
+pub const BLOCK: usize = 8;
+
+// The entries of a block, each negated: what stands between a caller with plain values and a sum that is lent.
+pub fn negated_block(block: [Entry; BLOCK]) -> [Entry; BLOCK]
+    requires { ⌜ AllTurn block ⌝ }
+    ensures { λ r. ⌜ r ≡ map negated block ⌝ }
+{
+    let mut sum = block;
+    negate_sum(&mut sum);
+    sum
+}

@@ -1,6 +1,6 @@
 -- The check of one half, by its ways out: against entries that are pushed already, and against the entries before they were.
 use mathlib.Core.Path.{_≡_, refl, sym, ap, ap₂, _∙_}
-use mathlib.Core.Bool.{Bool, true, false}
+use mathlib.Core.Bool.{true, false}
 use mathlib.Core.List.{List, [], _∷_, map}
 use Prim.Native.Nat.{ℕ, zero, suc, _≤_, _<_}
 use native.Mathlib.Omega.{arith}
@@ -17,7 +17,6 @@ use Rattle.nodes.specs.Nodes.{decode}
 use Rattle.matching.proofs.Checks.{bind-of, bind-bad, ensure-yes, ensure-no, or-of, or-bad}
 use Rattle.matching.specs.Matched.{Text, term, ConstantAt, SplitIs}
 use Rattle.matching.specs.Matched.{answerOf}
-use Rattle.normalize.specs.Flattening.{turnAll}
 use Rattle.normalize.specs.Halves.{PushedIs, resultOf, CollectReady, CollectIs, sidesCheck, pushedCheck, SidesIs, HalfReady, HalfIs}
 use Rattle.matching.specs.Entries.{entries, Under}
 use Rattle.normalize.specs.Lists.{Room}
@@ -102,17 +101,17 @@ module _ {t : List ℕ} {s z : ℕ} {cs : List ℤ} {ks : List ℕ} {n : ℕ} {d
 pub room-kept : {ds ds' : List ℤ} {js js' : List ℕ} → Room ds js → length ds' ≡ length ds → length js' ≡ length js → Room ds' js'
 room-kept r e f = record { coeffs = omega (arith, r .coeffs); keys = omega (arith, r .keys) }
 
--- ---- `halfCheck` on the entries as they were before they were turned and pushed
+-- ---- `halfCheck` on the entries as they were before they were pushed
 half-pushed : (G : List Entry) (k : ℤ) (s z : Term) → pushedCheck (pushEntries G) (k +ℤ pushedConstant G) s z ≡ halfCheck G k s z
 unfolding halfCheck pushedCheck sidesCheck
 half-pushed G k s z = rw (pushed-names G)
 
-pub before-pushed : {b : Bool} {cs cs' : List ℤ} {ks ks' : List ℕ} {n top : ℕ} {m : ℤ} → PushedIs b cs ks n cs' ks' m → Under top ks n → Under top ks' n
+pub before-pushed : {cs cs' : List ℤ} {ks ks' : List ℕ} {n top : ℕ} {m : ℤ} → PushedIs cs ks n cs' ks' m → Under top ks n → Under top ks' n
 before-pushed p B j l = rw (p .same j l) (B j l)
 
-pub half-turned : {t : List ℕ} {b : Bool} {cs cs' : List ℤ} {ks ks' : List ℕ} {n s z : ℕ} {m v : ℤ} {r : Answer} (k : ℤ) → PushedIs b cs ks n cs' ks' m → v ≡ k +ℤ m → HalfIs t s z cs' ks' n v r
-    → (x : Text t) → s < x .n → Under (x .n) ks n → answerOf r ≡ halfCheck (turnAll b (entries (term x) cs ks n)) k (term x s) (term x z)
-half-turned {b = b} {cs = cs} {ks = ks} {n = n} {s = s} {z = z} k p e h x l B =
+pub half-before : {t : List ℕ} {cs cs' : List ℤ} {ks ks' : List ℕ} {n s z : ℕ} {m v : ℤ} {r : Answer} (k : ℤ) → PushedIs cs ks n cs' ks' m → v ≡ k +ℤ m → HalfIs t s z cs' ks' n v r
+    → (x : Text t) → s < x .n → Under (x .n) ks n → answerOf r ≡ halfCheck (entries (term x) cs ks n) k (term x s) (term x z)
+half-before {cs = cs} {ks = ks} {n = n} {s = s} {z = z} k p e h x l B =
     h .is x l (before-pushed p B)
     ∙ ap₂ (λ (P : List Entry) (y : ℤ). pushedCheck P y (term x s) (term x z)) (p .is (term x)) (e ∙ ap (λ (y : ℤ). k +ℤ y) (p .total (term x)))
-    ∙ half-pushed (turnAll b (entries (term x) cs ks n)) k (term x s) (term x z)
+    ∙ half-pushed (entries (term x) cs ks n) k (term x s) (term x z)

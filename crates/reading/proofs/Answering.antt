@@ -6,7 +6,7 @@ use Prim.Native.Nat.{ℕ, zero, suc, _≤_}
 use native.Mathlib.Omega.{arith}
 use lib.ListN.{set}
 use Rattle.calculus.specs.Commands.{readFile, refused}
-use Rattle.calculus.proofs.Proper.{proper}
+use Rattle.theorems.proofs.Proper.{proper}
 use Rattle.reader.specs.Reading.{ReadsFile}
 use Rattle.reader.specs.declared.Whole.{Whole}
 use Rattle.reader.specs.declared.Whole.the-variants.{All, Refused, Small}

@@ -1,0 +1,120 @@
+-- Demand 3 of a list of commands: what is marked as holding holds.
+use mathlib.Core.Path.{_≡_, refl, ap, ap₂, subst, _∙_}
+use mathlib.Core.Bool.{Bool, true, false, _&&_, _||_}
+use mathlib.Core.List.{List, [], _∷_, _++_}
+use Prim.Native.Nat.{ℕ, zero, suc, _≤_}
+use native.Mathlib.Omega.{arith}
+use lib.Dec.{T, leb→le}
+use lib.IntN.{ℤ, pos, negsuc}
+use Rattle.calculus.specs.Marks.{Line, allHold, applyRule, clausesAt, contradiction, lineAt, lineOf, pick, plainOf, positive, refutedBy, run}
+use Rattle.calculus.specs.Matching.{asConstant, binary}
+use Rattle.calculus.specs.Rules.{single}
+use Rattle.calculus.specs.Terms.{Command, Rule, Term, app, assume, cons, sameInteger, ge, nil, num, addition, division, literal, multiplication, normalize, part, saturation, transfer, sameName, step}
+use Rattle.calculus.specs.Truth.{Assignment, Models, Satisfies, isStatement, pairOf, truth, truthOp, val, vals}
+use Rattle.calculus.specs.Words.{Res, bad, ok}
+use Rattle.calculus.proofs.Booleans.{and-l, and-r}
+use Rattle.theorems.proofs.NormalizeSound.{normalize-sound}
+use Rattle.theorems.proofs.Reading.{asConstant-ok, binary-ok, bind-ok, ensure-ok}
+use Rattle.theorems.proofs.RulesSound.{AllSat, addition-sound, division-sound, literal-sound, multiplication-sound, part-sound, saturation-sound, single-ok, transfer-sound}
+use Rattle.calculus.proofs.TermLaws.{sameInteger-eq}
+
+unfoldable pub Held : Assignment → List Line → Type 0
+Held σ [] = Unit {0}
+Held σ (l ∷ ls) = (T (l .holds) → Satisfies σ (l .clause)) × Held σ ls
+
+plain-ok : (r : Res Bool) → T (plainOf r) → r ≡ ok true
+unfolding plainOf
+plain-ok (ok true) t = refl
+plain-ok (ok false) t = absurd t
+plain-ok (bad n) t = absurd t
+
+rule-sound : (σ : Assignment) (r : Rule) (ps : List (List Term)) (xs c : List Term) → applyRule r ps xs c ≡ ok true → AllSat σ ps → Satisfies σ c
+unfolding applyRule
+rule-sound σ addition = addition-sound σ
+rule-sound σ multiplication = multiplication-sound σ
+rule-sound σ division = division-sound σ
+rule-sound σ saturation = saturation-sound σ
+rule-sound σ literal = literal-sound σ
+rule-sound σ normalize = normalize-sound σ
+rule-sound σ transfer = transfer-sound σ
+rule-sound σ part = part-sound σ
+
+held-at : (σ : Assignment) (ls : List Line) (i : List ℕ) → Held σ ls → T (lineAt ls i .holds) → Satisfies σ (lineAt ls i .clause)
+unfolding Held lineAt
+held-at σ [] i h t = absurd t
+held-at σ (l ∷ ls) i h t = go (sameName (l .id) i) (held-at σ ls i (h .1)) t
+  where
+    go : (c : Bool) → (T (lineAt ls i .holds) → Satisfies σ (lineAt ls i .clause)) → T (pick c l (lineAt ls i) .holds) → Satisfies σ (pick c l (lineAt ls i) .clause)
+    go true ih t = h .0 t
+    go false ih t = ih t
+
+held-all : (σ : Assignment) (ls : List Line) (is : List (List ℕ)) → Held σ ls → T (allHold ls is) → AllSat σ (clausesAt ls is)
+unfolding allHold clausesAt AllSat
+held-all σ ls [] h t = tt
+held-all σ ls (i ∷ is) h t = (held-at σ ls i h (and-l (lineAt ls i .holds) _ t), held-all σ ls is h (and-r (lineAt ls i .holds) _ t))
+
+held-add : (σ : Assignment) (ls : List Line) (l : Line) → Held σ ls → (T (l .holds) → Satisfies σ (l .clause)) → Held σ (ls ++ (l ∷ []))
+unfolding Held
+held-add σ [] l h k = (k, tt)
+held-add σ (m ∷ ls) l h k = (h .0, held-add σ ls l (h .1) k)
+
+step-held : (σ : Assignment) (ls : List Line) (c : List Term) (r : Rule) (is : List (List ℕ)) (xs : List Term) → Held σ ls → T (plainOf (applyRule r (clausesAt ls is) xs c) && allHold ls is) → Satisfies σ c
+step-held σ ls c r is xs h t =
+    rule-sound σ r (clausesAt ls is) xs c (plain-ok _ (and-l (plainOf (applyRule r (clausesAt ls is) xs c)) _ t))
+    (held-all σ ls is h (and-r (plainOf (applyRule r (clausesAt ls is) xs c)) _ t))
+
+sat-stmt : (σ : Assignment) (t : Term) → T (isStatement t) → T (truth σ t) → Satisfies σ (t ∷ [])
+unfolding Satisfies
+sat-stmt σ t a b = (a, b)
+
+run-held : (σ : Assignment) (ls : List Line) (cs : List Command) → Held σ ls → Models σ cs → Held σ (run ls cs)
+unfolding run Models lineOf
+run-held σ ls [] h m = h
+run-held σ ls (assume d t ∷ cs) h m = run-held σ (ls ++ (lineOf ls (assume d t) ∷ [])) cs (held-add σ ls (lineOf ls (assume d t)) h (λ s. sat-stmt σ t s (m .0 s))) (m .1)
+run-held σ ls (step d c r is xs ∷ cs) h m = run-held σ (ls ++ (lineOf ls (step d c r is xs) ∷ [])) cs (held-add σ ls (lineOf ls (step d c r is xs)) h (step-held σ ls c r is xs h)) m
+
+-- the theorem, first half
+pub sound : (cs : List Command) (σ : Assignment) → Models σ cs → Held σ (run [] cs)
+unfolding Held
+sound cs σ m = run-held σ [] cs tt m
+
+-- the theorem, second half
+no-sat : (σ : Assignment) (k : ℕ) → Satisfies σ (app ge (cons (num (pos 0)) (cons (num (pos (suc k))) nil)) ∷ []) → ⊥
+unfolding Satisfies truth truthOp pairOf vals val
+no-sat σ k s = let h : suc k ≤ 0 = leb→le (suc k) 0 (s .1) in omega arith
+
+positive-ok : (r : Res ℤ) → T (positive r) → (k : ℕ) × (r ≡ ok (pos (suc k)))
+unfolding positive
+positive-ok (ok (pos zero)) t = absurd t
+positive-ok (ok (pos (suc k))) t = (k, refl)
+positive-ok (ok (negsuc k)) t = absurd t
+positive-ok (bad n) t = absurd t
+
+false-sat : (σ : Assignment) (c : List Term) → T (contradiction c) → Satisfies σ c → ⊥
+unfolding contradiction
+false-sat σ c f s =
+    let (k, e) = positive-ok _ f in
+    let (t, h₁, e₁) = bind-ok (single c) _ (pos (suc k)) e in
+    let (p, h₂, e₂) = bind-ok (binary ge t) _ (pos (suc k)) e₁ in
+    let (z, h₃, e₃) = bind-ok (asConstant (p .0)) _ (pos (suc k)) e₂ in
+    let (h₄, e₄) = ensure-ok (sameInteger z (pos 0)) 0 _ (pos (suc k)) e₃ in
+    let d : t ≡ app ge (cons (num (pos 0)) (cons (num (pos (suc k))) nil)) = binary-ok ge t p h₂ ∙ ap₂ (λ (x y : Term). app ge (cons x (cons y nil))) (asConstant-ok (p .0) z h₃ ∙ ap num (sameInteger-eq z (pos 0) h₄)) (asConstant-ok (p .1) (pos (suc k)) e₄) in
+    no-sat σ k (subst (Satisfies σ) (single-ok c t h₁ ∙ ap (λ (x : Term). x ∷ []) d) s)
+
+refuted-lines : (σ : Assignment) (ls : List Line) → Held σ ls → T (refutedBy ls) → ⊥
+unfolding Held refutedBy
+refuted-lines σ [] h t = t
+refuted-lines σ (l ∷ ls) h t = go (l .holds) (contradiction (l .clause)) (h .0) (false-sat σ (l .clause)) (refuted-lines σ ls (h .1)) t
+  where
+    go : (a b : Bool) → (T a → Satisfies σ (l .clause)) → (T b → Satisfies σ (l .clause) → ⊥) → (T (refutedBy ls) → ⊥) → T ((a && b) || refutedBy ls) → ⊥
+    go true true f g k t = g tt (f tt)
+    go true false f g k t = k t
+    go false b f g k t = k t
+
+-- demand 3, of the commands that a text is read as
+pub record Demand3 (cs : List Command) : Type 0 where
+  pub marked : (σ : Assignment) → Models σ cs → Held σ (run [] cs)
+  pub refuted : T (refutedBy (run [] cs)) → (σ : Assignment) → ¬ (Models σ cs)
+
+pub demand3 : (cs : List Command) → Demand3 cs
+demand3 cs = record { marked = sound cs; refuted = λ t σ m. refuted-lines σ (run [] cs) (sound cs σ m) t }

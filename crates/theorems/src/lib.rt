@@ -1,0 +1,1 @@
+// This crate has no code: its proofs/ are the theorems about the definitions of crate calculus.
