@@ -8,6 +8,10 @@ use Rattle.calculus.specs.Sums.{Entry as SumEntry, entry}
 use Rattle.calculus.specs.Terms.{Term}
 use Rattle.entries.specs.declared.Entry.{Entry}
 
+-- how many entries are lent at once
+abbrev pub blockSize : ℕ
+blockSize = 8
+
 -- the coefficient can be negated at 64 bits
 abbrev pub Turns : ℤ → Type 0
 Turns z = SFits w64 (negℤ z)

@@ -17,11 +17,11 @@ use Rattle.calculus.specs.Terms.{Term}
 use Rattle.calculus.specs.Words.{maxNumeral}
 use Rattle.entries.proofs.Same.{negate-entry}
 use Rattle.entries.specs.declared.Entry.{Entry as Struct}
-use Rattle.entries.specs.Entries.{AllTurn, negated}
+use Rattle.entries.specs.Entries.{blockSize, AllTurn, negated}
 use Rattle.matching.specs.Entries.{run, entryAt, entries}
 use Rattle.matching.specs.Matched.{litAt}
 use Rattle.normalize.specs.Flattening.{turnAll}
-use Rattle.normalize.specs.Halves.{maxBlock, structOf, vacant, BlockIs, PutIs, NegateReady, NegatedIs}
+use Rattle.normalize.specs.Halves.{structOf, vacant, BlockIs, PutIs, NegateReady, NegatedIs}
 use Rattle.normalize.specs.Lists.{Coefficients, Held}
 use Rattle.normalize.proofs.Signs.{turn-is-neg, turn-is-same}
 
@@ -35,18 +35,18 @@ vacant-all (suc n) (suc k) = vacant-all n k
 -- ---- filling a block: the first k places have their entries, the others none
 pub record Filling (cs : List ℤ) (ks : List ℕ) (i m : ℕ) (block : List Struct) (k : ℕ) : Type 0 where
   pub upto : k ≤ m
-  pub long : length block ≡ maxBlock
+  pub long : length block ≡ blockSize
   pub filled : BlockIs cs ks i k block
 
 module _ {cs : List ℤ} {ks : List ℕ} {i m : ℕ} where
-  pub filling-none : {e : Struct} → e ≡ vacant → Filling cs ks i m (replicate maxBlock e) 0
+  pub filling-none : {e : Struct} → e ≡ vacant → Filling cs ks i m (replicate blockSize e) 0
   filling-none {e} h = rw h (record {
     upto = omega arith;
-    long = length-replicate maxBlock vacant;
-    filled = record { here = λ k l. absurd (not-suc-le-zero l); behind = λ k l. vacant-all maxBlock k };
+    long = length-replicate blockSize vacant;
+    filled = record { here = λ k l. absurd (not-suc-le-zero l); behind = λ k l. vacant-all blockSize k };
   })
 
-  pub filling-more : {block : List Struct} {k : ℕ} {e : Struct} → Filling cs ks i m block k → k < m → m ≤ maxBlock → e ≡ structOf (getD cs (i + k) (pos 0)) (getD ks (i + k) 0) → Filling cs ks i m (set block k e) (k + 1)
+  pub filling-more : {block : List Struct} {k : ℕ} {e : Struct} → Filling cs ks i m block k → k < m → m ≤ blockSize → e ≡ structOf (getD cs (i + k) (pos 0)) (getD ks (i + k) 0) → Filling cs ks i m (set block k e) (k + 1)
   filling-more {block} {k} {e} w h small q = record {
     upto = omega arith;
     long = length-set block k e ∙ w .long;

@@ -46,7 +46,7 @@ use denote.Triple.Table.{entered, cited}
 use denote.Triple.Clauses.{Clauses, ensured, lasts}
 use denote.Triple.Walked.{says, needs, Stays, stay-dropped, walkOf, goes-dropped, Walks, ends-at, walked, walk-meets}
 use Rattle.entries.specs.declared.Entry.{Entry}
-use Rattle.entries.specs.Entries.{AllTurn, negated}
+use Rattle.entries.specs.Entries.{blockSize, AllTurn, negated}
 use Rattle.entries.proofs.Entry as T′
 use Rattle.entries.proofs.Entry.Laws as L′
 use Rattle.entries.proofs.negate_sum as sum
@@ -61,13 +61,9 @@ use Rattle.entries.proofs.negated_block.Code as code
 abbrev R : RattleType
 R = T′.the-row
 
--- `BLOCK`
-abbrev n : ℕ
-n = 8
-
 -- a block, its MIR type, and its machine values
 abbrev Block : RattleType
-Block = Array R n
+Block = Array R blockSize
 
 abbrev block : Ty
 block = lone (Block .mir)
@@ -76,13 +72,13 @@ abbrev vals : List Entry → List Val
 vals = array-vals (LL.vals T′.the-type L′.the-laws)
 
 tells : Tells Block (Is Block) vals
-tells = array-tells R (LL.vals T′.the-type L′.the-laws) (LL.tells T′.the-type L′.the-laws) n
+tells = array-tells R (LL.vals T′.the-type L′.the-laws) (LL.tells T′.the-type L′.the-laws) blockSize
 
 abbrev slice : Ty
 slice = sliceTy (tyRef erased mut (pointee (R .written)))
 
 abbrev stayed : Stays (f.ended .signature .params) (f.ended .kept)
-stayed = (stay-dropped (ArrayOf (plain (λ _. R)) (λ _. tt) n) yes, tt)
+stayed = (stay-dropped (ArrayOf (plain (λ _. R)) (λ _. tt) blockSize) yes, tt)
 
 module _ {M : Type 1} (𝓤 : URA M) (H : Heap 𝓤) (A : Atoms 𝓤) (at-mem : Memory → SProp 𝓤) (run : Routine → Fun 𝓤) where
   abbrev clauses : Clauses 𝓤 f.ended
@@ -127,7 +123,7 @@ module _ {M : Type 1} (𝓤 : URA M) (H : Heap 𝓤) (A : Atoms 𝓤) (at-mem : 
 
       -- ---- the function, at the block xs
       module _ (is : Is Block xs (vals xs)) where
-        abbrev long : length xs ≡ n
+        abbrev long : length xs ≡ blockSize
         long = is .1 .0 .1
 
         abbrev bound : walkOf 𝓤 H A f.ended stayed clauses .Ghost
@@ -138,30 +134,30 @@ module _ {M : Type 1} (𝓤 : URA M) (H : Heap 𝓤) (A : Atoms 𝓤) (at-mem : 
 
         -- a block's machine value is of its type
         typed : (zs : List Entry) → Is Block zs (vals zs) → T (hasTy block (only (vals zs))) × WT (only (vals zs))
-        typed zs i = array-typed R (LL.lawful T′.the-type L′.the-laws 𝓤 H A W .typed) n zs (vals zs) i .0
+        typed zs i = array-typed R (LL.lawful T′.the-type L′.the-laws 𝓤 H A W .typed) blockSize zs (vals zs) i .0
 
         -- the array in memory is its entries there
         apart : (b : ℕ) → ent 𝓤 (sem 𝓤 H A (fat fullShare block b 0 (only (vals xs)))) (sem 𝓤 H A (cells (mem R) xs b 0))
         unfolding partOf
         apart b =
             qed W (‵ (fat fullShare block b 0 (only (vals xs))) ∷ []) ∵ use1 W (‵ (cellAt fullShare (Block .mir) (vals xs) b 0)) (W .laws .at-raw fullShare block b 0 (only (vals xs))) $
-            owned ! Block (Is Block) (array-makes 𝓤 H A W R (LL.makes T′.the-type L′.the-plain 𝓤 H A) n) xs (vals xs) is $ move ! (1 ∷ 0 ∷ []) $ fjoin ! $
+            owned ! Block (Is Block) (array-makes 𝓤 H A W R (LL.makes T′.the-type L′.the-plain 𝓤 H A) blockSize) xs (vals xs) is $ move ! (1 ∷ 0 ∷ []) $ fjoin ! $
             fpack ! (List Val) (λ us. fsep (cellAt fullShare (Block .mir) us b 0) (Block .own xs us)) (vals xs) $
-            use1 W (‵ (arr-parts (shares R) n .part fullShare xs b 0)) (array-apart 𝓤 H A W R fullShare tt n xs b 0) $ fsplit ! $ drop ! $ by ! (whole-in 𝓤 H A W R xs b 0)
+            use1 W (‵ (arr-parts (shares R) blockSize .part fullShare xs b 0)) (array-apart 𝓤 H A W R fullShare tt blockSize xs b 0) $ fsplit ! $ drop ! $ by ! (whole-in 𝓤 H A W R xs b 0)
 
         -- and the entries that came back are an array again
         again : (b : ℕ) → ent 𝓤 (sem 𝓤 H A (Arr (mem R) (length xs) .lies ys b 0)) (guard 𝓤 (Is Block ys (vals ys)) (sem 𝓤 H A (fat fullShare block b 0 (only (vals ys)))))
         unfolding partOf
         again b =
-            qed W (‵ (Arr (mem R) (length xs) .lies ys b 0) ∷ []) ∵ fsplit ! $ feqL ! (λ l. use1 W (‵ (row R fullShare ys b 0)) (whole-out 𝓤 H A W R ys b 0) $ feqI ! ℕ (length ys) n (l ∙ long) $ fjoin ! $
-            use1 W (‵ (partAt Block fullShare ys b 0)) (array-whole 𝓤 H A W R fullShare n ys b 0) $ fpick ! (λ us. fsplit ! $ move ! (1 ∷ []) $ facts ! Block (Is Block) (shows 𝓤 H A Block) ys us (λ i.
+            qed W (‵ (Arr (mem R) (length xs) .lies ys b 0) ∷ []) ∵ fsplit ! $ feqL ! (λ l. use1 W (‵ (row R fullShare ys b 0)) (whole-out 𝓤 H A W R ys b 0) $ feqI ! ℕ (length ys) blockSize (l ∙ long) $ fjoin ! $
+            use1 W (‵ (partAt Block fullShare ys b 0)) (array-whole 𝓤 H A W R fullShare blockSize ys b 0) $ fpick ! (λ us. fsplit ! $ move ! (1 ∷ []) $ facts ! Block (Is Block) (shows 𝓤 H A Block) ys us (λ i.
             rewrite ! 0 (λ (ws : List Val). ‵ (cellAt fullShare (Block .mir) ws b 0)) (tells ys us i) refl $ check ! (subst (Is Block ys) (tells ys us i) i) $ by ! (W .laws .raw-at fullShare block b 0 (only (vals ys))))))
 
         -- at exit: the negated block is the result
         exits : Is Block ys (vals ys) → ent 𝓤 (emp 𝓤) (Post (only (vals ys)))
         exits i =
             qed W [] ∵ suffices ! _ (ends-at 𝓤 H A f.ended stayed clauses W bound (only (vals ys)) ys (tt, tt) (tt, tt)) $ says ! refl $
-            owned ! Block (Is Block) (array-makes 𝓤 H A W R (LL.makes T′.the-type L′.the-plain 𝓤 H A) n) ys (vals ys) i $ nothing ! $ nothing ! $ fjoin ! $ nothing ! $ done !
+            owned ! Block (Is Block) (array-makes 𝓤 H A W R (LL.makes T′.the-type L′.the-plain 𝓤 H A) blockSize) ys (vals ys) i $ nothing ! $ nothing ! $ fjoin ! $ nothing ! $ done !
 
         -- the body
         walk : AllTurn xs → ent 𝓤 (onEntry 𝓤 H A f.signature tt tt (xs, tt) (vals xs, tt)) (WpFn 𝓤 H (𝓣 .C) (𝓣 .Λ) code.function (vals xs) Post)
@@ -192,7 +188,7 @@ module _ {M : Type 1} (𝓤 : URA M) (H : Heap 𝓤) (A : Atoms 𝓤) (at-mem : 
         (λ κs qs bounds a _ are. needs 𝓤 (AllTurn (a .0)) _ (walk (a .0) (are .0)))
 
     meets : Meets 𝓤 H A f.signature (WpFn 𝓤 H (𝓣 .C) (𝓣 .Λ) code.function) (f.spec 𝓤 H A at-mem run)
-    meets = walk-meets 𝓤 H A f.ended stayed W (goes-dropped 𝓤 H A W 0 (ArrayOf (plain (λ _. R)) (λ _. tt) n) yes (λ κs x l. refl), tt) clauses (WpFn 𝓤 H (𝓣 .C) (𝓣 .Λ) code.function) (WpFn-mono 𝓤 H (W .laws) 𝓣 code.function) walks
+    meets = walk-meets 𝓤 H A f.ended stayed W (goes-dropped 𝓤 H A W 0 (ArrayOf (plain (λ _. R)) (λ _. tt) blockSize) yes (λ κs x l. refl), tt) clauses (WpFn 𝓤 H (𝓣 .C) (𝓣 .Λ) code.function) (WpFn-mono 𝓤 H (W .laws) 𝓣 code.function) walks
 
 pub negated-block-spec : {M : Type 1} → stated.statement M
 unfolding code.routine tablesOf
