@@ -1,5 +1,5 @@
 -- Negating a sum in place, a block of structs at a time, and what that is on the list of entries.
-use mathlib.Core.Path.{_≡_, refl, sym, ap, ap₂, _∙_}
+use mathlib.Core.Path.{_≡_, refl, sym, ap, _∙_}
 use mathlib.Core.Bool.{Bool, true, false}
 use mathlib.Core.List.{List, [], _∷_, map}
 use Prim.Native.Nat.{ℕ, zero, suc, _+_, _-_, _≤_, _<_}
@@ -23,6 +23,7 @@ use Rattle.matching.specs.Matched.{litAt}
 use Rattle.normalize.specs.Flattening.{turnAll}
 use Rattle.normalize.specs.Halves.{structOf, vacant, BlockIs, PutIs, NegateReady, NegatedIs}
 use Rattle.normalize.specs.Lists.{Coefficients, Held}
+use Rattle.normalize.proofs.Runs.{run-each}
 use Rattle.normalize.proofs.Signs.{turn-is-neg, turn-is-same}
 
 -- ---- a block without entries
@@ -96,9 +97,8 @@ all-turn (e ∷ es) h = (fits-within (omega arith) (within-neg (h 0)), all-turn 
 
 -- ---- on lists
 negated-run : (f g : ℕ → Entry) (i n : ℕ) → ((m : ℕ) → i ≤ m → m < i + n → g m ≡ negEntry (f m)) → run g i n ≡ negAll (run f i n)
-unfolding run negAll
-negated-run f g i zero h = refl
-negated-run f g i (suc n) h = ap₂ _∷_ (h i (omega arith) (omega arith)) (negated-run f g (suc i) n (λ m p q. h m (omega arith) (omega arith)))
+unfolding negAll
+negated-run = run-each negAll negEntry refl (λ e E. refl)
 
 -- ---- the loop: the first i are negated, the others as they were
 pub record Negating (cs : List ℤ) (n : ℕ) (cs' : List ℤ) (i : ℕ) : Type 0 where
