@@ -3,9 +3,9 @@
 Compares the formal definitions with the reference by computation, on the examples of document 01 and
 COUNT generated texts. Each text becomes a theorem, `reportOf text ≡ the reference's report`, proved by
 computing both sides, in a temporary repository that holds copies of the crates, proved already where
-target/ has them so: rt goes by their bytes. Prints what was
-compared and each text that differs, or whose computation ended without a verdict (a text of several
-thousand bytes can be too long for the prover); the exit status is 0 only if all agree.
+target/ has them so: rt goes by their bytes. Prints what was compared and each text that differs, or
+whose computation ended without a verdict (a text of several thousand bytes can be too long for the
+prover); the exit status is 0 only if all agree.
 """
 import collections
 import os
