@@ -35,7 +35,7 @@ extern "C" {
  *
  * No pointer may be null, also where its length is 0; nodes is aligned as a uint32_t is. The three may not overlap. The library keeps no
  * pointer after it returns, has no state of its own, calls no function that has, and allocates nothing: calls from several threads
- * at once are fine as long as no two of them share a table. A call took up to 127,631 bytes of stack on the
+ * at once are fine as long as no two of them share a table. A call took up to 121,359 bytes of stack on the
  * longest and deepest texts of tests/vectors/reports; have 512 KB free.
  */
 size_t cutting_planes_check(

@@ -14,7 +14,8 @@ use Rattle.nodes.proofs.Tables.{by-node}
 use Rattle.matching.specs.Matched.{answerOf}
 use Rattle.matching.specs.declared.Answer.{Answer}
 use Rattle.reader.specs.Commands.{wordAt, kindWord}
-use Rattle.sums.specs.Lists.{Room, maxEntries}
+use Rattle.sums.specs.Places.{Rooms}
+use Rattle.sums.proofs.Places.{rooms-kept}
 use Rattle.steps.specs.Answers.{Given, StepIs}
 use Rattle.steps.proofs.Stepping.{in-all}
 use Rattle.checker.specs.Runs.{File, commandLine, AnswerIs, AnswersAre}
@@ -27,6 +28,7 @@ module _ {s t w : List ℕ} {n : ℕ} (f : File s t w n) where
     n = f .nodes;
     c = f .children;
     table = f .table;
+    firsts = f .firsts;
     room = f .commands .room;
     few = omega (arith, f .commands .few);
     each = λ j g. f .commands .each j (omega arith);
@@ -68,7 +70,7 @@ pub answers-all : (t w ns : List ℕ) (n : ℕ) (ps : List Bool) (k : ℕ) → A
 answers-all t w ns n ps k A h s f = let (numbers, plains) = A s f in (λ j i. numbers j (omega arith), λ j i. plains j (omega arith))
 
 -- ---- the room of every sum
--- the slices of a sum have the lengths that they had
+-- the arrays have the lengths that they had
 pub record Kept (cs₀ : List ℤ) (ks₀ sl₀ : List ℕ) (cs : List ℤ) (ks sl : List ℕ) : Type 0 where
   pub coefficients : length cs ≡ length cs₀
   pub keys : length ks ≡ length ks₀
@@ -77,15 +79,12 @@ pub record Kept (cs₀ : List ℤ) (ks₀ sl₀ : List ℕ) (cs : List ℤ) (ks 
 pub kept-refl : (cs : List ℤ) (ks sl : List ℕ) → Kept cs ks sl cs ks sl
 kept-refl cs ks sl = record { coefficients = refl; keys = refl; slots = refl }
 
-pub kept-room : {cs₀ : List ℤ} {ks₀ sl₀ : List ℕ} {cs : List ℤ} {ks sl : List ℕ} → Kept cs₀ ks₀ sl₀ cs ks sl → Room cs₀ ks₀ sl₀ → Room cs ks sl
-kept-room k r = record { coefficients = omega (arith, k .coefficients, r .coefficients); keys = omega (arith, k .keys, r .keys); slots = omega (arith, k .slots, r .slots) }
+pub kept-rooms : {cs₀ : List ℤ} {ks₀ sl₀ : List ℕ} {cs : List ℤ} {ks sl : List ℕ} → Kept cs₀ ks₀ sl₀ cs ks sl → Rooms cs₀ ks₀ sl₀ → Rooms cs ks sl
+kept-rooms k = rooms-kept (k .coefficients) (k .keys) (k .slots)
 
-pub room-of : (z : ℤ) (a b : ℕ) → Room (replicate 1024 z) (replicate 1024 a) (replicate 2049 b)
-room-of z a b = record {
-  coefficients = omega (arith, length-replicate 1024 z);
-  keys = omega (arith, length-replicate 1024 a);
-  slots = omega (arith, length-replicate 2049 b);
+pub rooms-of : (z : ℤ) (a b : ℕ) → Rooms (replicate 3072 z) (replicate 3072 a) (replicate 16384 b)
+rooms-of z a b = record {
+  coefficients = omega (arith, length-replicate 3072 z);
+  keys = omega (arith, length-replicate 3072 a);
+  slots = omega (arith, length-replicate 16384 b);
 }
-
-pub entries-of : (z : ℤ) → maxEntries ≤ length (replicate 1024 z)
-entries-of z = omega (arith, length-replicate 1024 z)

@@ -68,11 +68,12 @@ module _ (s t w : List ℕ) where
 -- what is published of a text that was read makes it a file
 pub file-of : (s t u w x : List ℕ) (r : Whole) (k n c : ℕ) → ReadsFile s t u w x r → r ≡ All k n c → File s u x k
 file-of s t u w x r k n c h e =
-    let (read, table, named, commands) = subst (ReadsFile s t u w x) e h in
+    let (read, table, firsts, named, commands) = subst (ReadsFile s t u w x) e h in
     record {
       nodes = n;
       children = c;
       table = table;
+      firsts = firsts;
       named = named;
       commands = commands;
       distinct = apart s u x k (faithful s (commandsOf s u x k) read .limits .allowed);

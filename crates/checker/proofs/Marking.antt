@@ -56,7 +56,7 @@ module _ {s t w : List ℕ} {n : ℕ} (f : File s t w n) where
 
   -- its clause's terms are nodes
   pub clause-nodes : (k : ℕ) → k < n → AllNodes t (partAt t w k clauseWord)
-  clause-nodes k h = nodes-used (f .table) (partAt t w k clauseWord) (f .commands .each k h .terms)
+  clause-nodes k h = nodes-used (f .table) (f .firsts) (partAt t w k clauseWord) (f .commands .each k h .terms)
 
   -- its premises stand above it
   pub premises-above : (k : ℕ) → k < n → (i : ℕ) → i < length (partAt t w k premisesWord) → getD (partAt t w k premisesWord) i 0 < k

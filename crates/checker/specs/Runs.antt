@@ -6,7 +6,7 @@ use Prim.Native.Nat.{ℕ, _<_}
 use lib.ListN.{length, getD}
 use Rattle.calculus.specs.Marks.{Line, lineOf, numberOf, plainOf, contradiction, refutedBy, run}
 use Rattle.calculus.specs.Terms.{sameName}
-use Rattle.nodes.specs.Nodes.{Table, Named}
+use Rattle.nodes.specs.Nodes.{Table, Firsts, Named}
 use Rattle.matching.specs.Matched.{answerOf}
 use Rattle.matching.specs.declared.Answer.{Answer}
 use Rattle.reader.specs.Commands.{commandOf, commandsOf, Commands}
@@ -17,6 +17,7 @@ pub record File (s t w : List ℕ) (n : ℕ) : Type 0 where
   pub nodes : ℕ
   pub children : ℕ
   pub table : Table t nodes children
+  pub firsts : Firsts t nodes
   pub named : Named s t nodes
   pub commands : Commands s t w n nodes children
   pub distinct : (i j : ℕ) → i < j → j < n → sameName (stringAt s w i) (stringAt s w j) ≡ false

@@ -16,7 +16,7 @@ use reader::read_file;
 use report::write_refusal;
 use report::write_report;
 use steps::check_step;
-use sums::MAX_ENTRIES;
+use sums::ENTRIES;
 use sums::SLOTS;
 ghost use mathlib.Core.Path.{_≡_};
 ghost use Prim.Native.Nat.{_≤_, _<_};
@@ -27,7 +27,7 @@ ghost use Rattle.calculus.specs.Report.{minReport, minTable, reportLines, repor
 ghost use Rattle.matching.specs.Matched.{answerOf};
 ghost use Rattle.reader.specs.Commands.{allWords};
 ghost use Rattle.report.specs.Written.{Wrote};
-ghost use Rattle.sums.specs.Lists.{Room, maxEntries};
+ghost use Rattle.sums.specs.Places.{Rooms};
 ghost use Rattle.checker.specs.Runs.{File, Filed, commandLines, allMarked, AnswerIs, AnswersAre, HoldsIs, MarksAre, RefutesIs, RefutedIs, Cited};
 
 // The least report that a call has to be lent; of the node table the least is reader::NODE_WORDS.
@@ -43,38 +43,15 @@ fn answer_of(
     coeffs: &mut [i64],
     keys: &mut [u32],
     slots: &mut [u16],
-    coeffs2: &mut [i64],
-    keys2: &mut [u32],
-    slots2: &mut [u16],
-    coeffs3: &mut [i64],
-    keys3: &mut [u32],
-    slots3: &mut [u16],
-    reduced: &mut [i64],
 ) -> Answer
     requires { ⌜ Filed (now nodes) (now commands) n × (k < n) ⌝ }
-    requires { ⌜ Room (now coeffs) (now keys) (now slots) × (maxEntries ≤ length (now reduced)) ⌝ }
-    requires { ⌜ Room (now coeffs2) (now keys2) (now slots2) ⌝ }
-    requires { ⌜ Room (now coeffs3) (now keys3) (now slots3) ⌝ }
+    requires { ⌜ Rooms (now coeffs) (now keys) (now slots) ⌝ }
     ensures { λ r. ⌜ AnswerIs (now (nodes .entry)) (now (commands .entry)) n k r ⌝ }
 {
     if word_of(commands, k, KIND_WORD) == 0 {
         return Answer::Accepted(true);
     }
-    check_step(
-        nodes,
-        commands,
-        k,
-        coeffs,
-        keys,
-        slots,
-        coeffs2,
-        keys2,
-        slots2,
-        coeffs3,
-        keys3,
-        slots3,
-        reduced,
-    )
+    check_step(nodes, commands, k, coeffs, keys, slots)
 }
 
 // Stores an answer as that of command k.
@@ -95,7 +72,7 @@ fn put_answer(numbers: &mut [u8], plains: &mut [bool], k: usize, answer: Answer)
     }
 }
 
-// The answers of all n commands, with the slices that sums are made in.
+// The answers of all n commands, with the arrays that sums are made in.
 fn answer_all(
     nodes: &[u32],
     commands: &[u16],
@@ -105,39 +82,15 @@ fn answer_all(
     coeffs: &mut [i64],
     keys: &mut [u32],
     slots: &mut [u16],
-    coeffs2: &mut [i64],
-    keys2: &mut [u32],
-    slots2: &mut [u16],
-    coeffs3: &mut [i64],
-    keys3: &mut [u32],
-    slots3: &mut [u16],
-    reduced: &mut [i64],
 )
     requires { ⌜ Filed (now nodes) (now commands) n ⌝ }
     requires { ⌜ (n ≤ length (now numbers)) × (n ≤ length (now plains)) ⌝ }
-    requires { ⌜ Room (now coeffs) (now keys) (now slots) × (maxEntries ≤ length (now reduced)) ⌝ }
-    requires { ⌜ Room (now coeffs2) (now keys2) (now slots2) ⌝ }
-    requires { ⌜ Room (now coeffs3) (now keys3) (now slots3) ⌝ }
+    requires { ⌜ Rooms (now coeffs) (now keys) (now slots) ⌝ }
     ensures { λ _. ⌜ AnswersAre (now (nodes .entry)) (now (commands .entry)) n n (now (numbers .exit)) (now (plains .exit)) ⌝ }
 {
     let mut k = 0;
     while k < n {
-        let answer = answer_of(
-            nodes,
-            commands,
-            n,
-            k,
-            coeffs,
-            keys,
-            slots,
-            coeffs2,
-            keys2,
-            slots2,
-            coeffs3,
-            keys3,
-            slots3,
-            reduced,
-        );
+        let answer = answer_of(nodes, commands, n, k, coeffs, keys, slots);
         put_answer(numbers, plains, k, answer);
         k += 1;
     }
@@ -155,16 +108,9 @@ fn answer_commands(
     requires { ⌜ (n ≤ length (now numbers)) × (n ≤ length (now plains)) ⌝ }
     ensures { λ _. ⌜ AnswersAre (now (nodes .entry)) (now (commands .entry)) n n (now (numbers .exit)) (now (plains .exit)) ⌝ }
 {
-    let mut coeffs = [0i64; MAX_ENTRIES];
-    let mut keys = [0u32; MAX_ENTRIES];
+    let mut coeffs = [0i64; ENTRIES];
+    let mut keys = [0u32; ENTRIES];
     let mut slots = [0u16; SLOTS];
-    let mut coeffs2 = [0i64; MAX_ENTRIES];
-    let mut keys2 = [0u32; MAX_ENTRIES];
-    let mut slots2 = [0u16; SLOTS];
-    let mut coeffs3 = [0i64; MAX_ENTRIES];
-    let mut keys3 = [0u32; MAX_ENTRIES];
-    let mut slots3 = [0u16; SLOTS];
-    let mut reduced = [0i64; MAX_ENTRIES];
     answer_all(
         nodes,
         commands,
@@ -174,13 +120,6 @@ fn answer_commands(
         &mut coeffs,
         &mut keys,
         &mut slots,
-        &mut coeffs2,
-        &mut keys2,
-        &mut slots2,
-        &mut coeffs3,
-        &mut keys3,
-        &mut slots3,
-        &mut reduced,
     );
 }
 

@@ -2,7 +2,7 @@
 use mathlib.Core.Path.{_≡_, refl, sym, ap, _∙_, subst}
 use mathlib.Core.Bool.{Bool, true, false}
 use mathlib.Core.List.{List, [], _∷_, map}
-use Prim.Native.Nat.{ℕ, _+_, _*_, _%_, _^_, _≤_, _<_}
+use Prim.Native.Nat.{ℕ, _+_, _-_, _*_, _%_, _^_, _≤_, _<_}
 use native.Mathlib.Decide.{decLt}
 use native.Mathlib.Omega.{arith}
 use borrow.Author.Tests.{eq-eqb, ne-eqb, le-leb, lt-leb}
@@ -17,7 +17,7 @@ use mir.Val.{toZ, ofZ}
 use Rattle.calculus.specs.Equality.{opNum, opOf, sameOp}
 use Rattle.calculus.specs.Matching.{asConstant, isName, argumentsOf, pair, binary, negOf}
 use Rattle.calculus.specs.Sums.{litIf, litOf, childrenOr, splitSummation}
-use Rattle.calculus.specs.Terms.{Term, app, listed, sameInteger}
+use Rattle.calculus.specs.Terms.{Term, var, app, listed, sameInteger}
 use Rattle.calculus.specs.Writing.{maxNodes}
 use Rattle.calculus.specs.Words.{ok, bad}
 use Rattle.calculus.proofs.TermLaws.{sameInteger-refl}
@@ -25,7 +25,7 @@ use Rattle.calculus.proofs.Booleans.{is-true}
 use Rattle.nodes.specs.Nodes.{plusKind, minusKind, nameKind, kindAt, firstAt, secondAt, childrenAt, decode, Below, Node}
 use Rattle.nodes.proofs.Comparing.{opNum-opOf}
 use Rattle.nodes.proofs.Tables.{decode-application, decode-plus, decode-minus, decode-name, below-at, below-more}
-use Rattle.matching.specs.Matched.{Inner, ConstantAt, PairAt, NegationAt, keyOf, variableOf, negatedOf, litAt, LiteralIs, SplitIs}
+use Rattle.matching.specs.Matched.{term, Inner, ConstantAt, PairAt, NegationAt, keyOf, variableOf, negatedOf, litAt, LiteralIs, NumberIs, KeyIs, SplitIs}
 use Rattle.matching.proofs.Checks.{bind-of, bind-bad, ensure-yes, ensure-no}
 use Rattle.nodes.specs.Equal.{Pair}
 use Rattle.calculus.proofs.TermLaws.{sameInteger-eq}
@@ -40,7 +40,7 @@ node-few N = omega (arith, N .below, N .table .few)
 
 -- what stands before a node is one
 pub inner-of : {t : List ℕ} {i a : ℕ} → Node t i → a ≤ i → Inner t i a
-inner-of N h = record { node = record { n = N .n; c = N .c; table = N .table; below = omega (arith, N .below) }; before = h }
+inner-of N h = record { node = record { n = N .n; c = N .c; table = N .table; firsts = N .firsts; below = omega (arith, N .below) }; before = h }
 
 pub node-before : {t : List ℕ} {i a : ℕ} → Node t i → a ≤ i → Node t a
 node-before N h = inner-of N h .node
@@ -251,3 +251,37 @@ module _ {t : List ℕ} {i : ℕ} (N : Node t i) where
     is = λ s. rw q (sym (ap (childrenOr (decode s t i)) (arguments-not N 0 (omega arith) f s)));
     nodes = rw q (omega arith, tt);
   }
+
+-- ---- variables by their numbers
+module _ {t : List ℕ} {v : ℕ} (N : Node t v) where
+  pub number-term : kindAt t v < nameKind → NumberIs t v v
+  number-term h = record {
+    is = λ x l. refl;
+    variable = record { node = N; first = λ g. let z : ⊥ = omega arith in absurd z };
+    before = omega arith;
+  }
+
+  pub number-name : nameKind ≤ kindAt t v → (r : ℕ) → r ≡ kindAt t v - nameKind → NumberIs t v r
+  number-name h r e = record {
+    is = λ x l.
+        let b : r ≤ v = omega (arith, N .firsts .before v (N .below) h) in
+        decode-name (N .table) (x .text) v (N .below) h
+        ∙ ap var (x .named .one v r l (omega arith) h (sym kinds))
+        ∙ sym (decode-name (N .table) (x .text) r (omega (arith, N .below)) (omega (arith, kinds)));
+    variable = record { node = node-before N (omega (arith, N .firsts .before v (N .below) h)); first = λ g. omega (arith, kinds) };
+    before = omega (arith, N .firsts .before v (N .below) h);
+  }
+    where
+      kinds : kindAt t r ≡ kindAt t v
+      kinds = rw e (N .firsts .same v (N .below) h)
+
+-- a literal's key, its variable by its number
+pub key-is : {t : List ℕ} {v w r : ℕ} (b : Bool) → LiteralIs t v (keyOf w b) → NumberIs t w r → (q : ℕ) → q ≡ keyOf r b → KeyIs t v q
+key-is {t} {v} {w} {r} b L M q e = record {
+  is = λ x h. L .is (x .text) ∙ key-literal (term x) w b ∙ ap (λ (u : Term). record { variable = u; negated = b }) (M .is x (omega (arith, nearer))) ∙ rw e (sym (key-literal (term x) r b));
+  variable = rw (e, key-variable r b) (M .variable);
+  before = rw (e, key-variable r b) (omega (arith, M .before, nearer));
+}
+  where
+    nearer : w ≤ v
+    nearer = rw (key-variable w b) at (L .inner .before)

@@ -8,7 +8,7 @@ use lib.ListN.{getD}
 use Rattle.calculus.specs.Sums.{Entry, entry, allNames}
 use Rattle.calculus.specs.Terms.{Term}
 use Rattle.nodes.specs.Nodes.{decode, Node}
-use Rattle.matching.specs.Matched.{variableOf, litAt}
+use Rattle.matching.specs.Matched.{variableOf, litAt, Variable}
 
 -- f i, f (i + 1), .., n of them
 unfoldable pub run : (ℕ → Entry) → ℕ → ℕ → List Entry
@@ -34,3 +34,7 @@ Under m ks n = (i : ℕ) → i < n → variableOf (getD ks i 0) < m
 -- whether they are names: the coefficients don't matter, nor does the text
 abbrev pub NamesAre : (t ks : List ℕ) → ℕ → Bool → Type 0
 NamesAre t ks n r = (s : List ℕ) (cs : List ℤ) → r ≡ allNames (entries (decode s t) cs ks n)
+
+-- the first n keys are over variables by their numbers
+abbrev pub Literals : List ℕ → List ℕ → ℕ → Type 0
+Literals t ks n = (i : ℕ) → i < n → Variable t (variableOf (getD ks i 0))

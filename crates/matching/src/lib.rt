@@ -12,7 +12,8 @@ ghost use Rattle.calculus.specs.Matching.{isName};
 ghost use Rattle.calculus.specs.Writing.{maxNodes};
 ghost use Rattle.nodes.specs.Nodes.{plusKind, firstAt, decode, Node};
 ghost use Rattle.matching.specs.Entries.{Variables, NamesAre};
-ghost use Rattle.matching.specs.Matched.{ConstantIs, PairIs, NegationIs, SplitIs, keyOf, variableOf, negatedOf, LiteralIs};
+ghost use Rattle.matching.specs.Matched.{ConstantIs, PairIs, NegationIs, SplitIs, keyOf, variableOf, negatedOf, LiteralIs, NumberIs, KeyIs};
+ghost use Rattle.matching.specs.Places.{maxEntries, maxPlace, placed};
 
 // The operators that the rules match.
 pub const ADD: u32 = 0;
@@ -227,14 +228,37 @@ pub fn literal_of(nodes: &[u32], v: u32) -> u32
     }
 }
 
-// Whether each variable of n keys is a name.
-pub fn all_names(nodes: &[u32], keys: &[u32], n: usize) -> bool
-    requires { ⌜ Variables (now nodes) (now keys) n × (n ≤ length (now keys)) ⌝ }
-    ensures { λ r. ⌜ NamesAre (now (nodes .entry)) (now (keys .entry)) n r ⌝ }
+// The number of the variable that node v is: of a name the first node that has it, of any other term the node itself.
+fn number_of(nodes: &[u32], v: u32) -> u32
+    requires { ⌜ Node (now nodes) v ⌝ }
+    ensures { λ r. ⌜ NumberIs (now (nodes .entry)) v r ⌝ }
+{
+    let kind = nodes::kind_of(nodes, nodes::wide(v));
+    if kind < NAME_KIND {
+        return v;
+    }
+    kind - NAME_KIND
+}
+
+// The key of the literal that node v is, by its variable's number: one literal over a name has one key.
+pub fn literal_key(nodes: &[u32], v: u32) -> u32
+    requires { ⌜ Node (now nodes) v ⌝ }
+    ensures { λ r. ⌜ KeyIs (now (nodes .entry)) v r ⌝ }
+{
+    match negation_of(nodes, v) {
+        Negation::Of(w) => key_of(number_of(nodes, w), true),
+        Negation::Not => key_of(number_of(nodes, v), false),
+    }
+}
+
+// Whether each variable of the n keys at a place is a name.
+pub fn all_names(nodes: &[u32], keys: &[u32], at: usize, n: usize) -> bool
+    requires { ⌜ Variables (now nodes) (placed at (now keys)) n × (at + n ≤ length (now keys)) × (at ≤ maxPlace) × (n ≤ maxEntries) ⌝ }
+    ensures { λ r. ⌜ NamesAre (now (nodes .entry)) (placed at (now (keys .entry))) n r ⌝ }
 {
     let mut i: usize = 0;
     while i < n {
-        if !is_name(nodes, variable_of(keys[i])) {
+        if !is_name(nodes, variable_of(keys[at + i])) {
             return false;
         }
         i += 1;

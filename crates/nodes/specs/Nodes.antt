@@ -3,7 +3,7 @@
 use mathlib.Core.Path.{_≡_}
 use mathlib.Core.Bool.{true, false, cond}
 use mathlib.Core.List.{List, [], _∷_, _++_, map}
-use Prim.Native.Nat.{ℕ, zero, suc, _+_, _*_, _≤_, _<_}
+use Prim.Native.Nat.{ℕ, zero, suc, _+_, _-_, _*_, _≤_, _<_}
 use lib.Dec.{ltb, eqb}
 use lib.IntN.{pos}
 use lib.ListN.{length, getD, take, drop, set}
@@ -96,15 +96,20 @@ pub record Named (s t : List ℕ) (n : ℕ) : Type 0 where
   pub starts : (i : ℕ) → i < n → nameKind ≤ kindAt t i → firstAt t i < secondAt t i
   pub ends : (i : ℕ) → i < n → nameKind ≤ kindAt t i → secondAt t i ≤ length s
   pub short : (i : ℕ) → i < n → nameKind ≤ kindAt t i → secondAt t i ≤ firstAt t i + maxName
-  pub numbered : (i : ℕ) → i < n → kindAt t i < nameKind + n
   pub one : (i j : ℕ) → i < n → j < n → nameKind ≤ kindAt t i → kindAt t i ≡ kindAt t j → nameAt s t i ≡ nameAt s t j
   pub other : (i j : ℕ) → i < n → j < n → nameKind ≤ kindAt t i → nameKind ≤ kindAt t j → nameAt s t i ≡ nameAt s t j → kindAt t i ≡ kindAt t j
 
--- i is a node of the table t
+-- a variable's number is the first node with its name
+pub record Firsts (t : List ℕ) (n : ℕ) : Type 0 where
+  pub before : (i : ℕ) → i < n → nameKind ≤ kindAt t i → kindAt t i ≤ nameKind + i
+  pub same : (i : ℕ) → i < n → nameKind ≤ kindAt t i → kindAt t (kindAt t i - nameKind) ≡ kindAt t i
+
+-- i is a node of the table t, whose variables have the numbers of their first nodes
 pub record Node (t : List ℕ) (i : ℕ) : Type 0 where
   pub n : ℕ
   pub c : ℕ
   pub table : Table t n c
+  pub firsts : Firsts t n
   pub below : i < n
 
 -- ---- how a table is written

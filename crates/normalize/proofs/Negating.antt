@@ -22,7 +22,7 @@ use Rattle.matching.specs.Entries.{run, entryAt, entries}
 use Rattle.matching.specs.Matched.{litAt}
 use Rattle.normalize.specs.Flattening.{turnAll}
 use Rattle.normalize.specs.Halves.{structOf, vacant, BlockIs, PutIs, NegateReady, NegatedIs}
-use Rattle.normalize.specs.Lists.{Coefficients, Held}
+use Rattle.normalize.specs.Lists.{Room, Coefficients, Held}
 use Rattle.normalize.proofs.Runs.{run-each}
 use Rattle.normalize.proofs.Signs.{turn-is-neg, turn-is-same}
 
@@ -140,11 +140,11 @@ module _ {cs : List ℤ} {ks : List ℕ} {n : ℕ} (p : NegateReady cs ks n) whe
     }
 
 -- ---- entries of the table
-pub negate-ready : {t : List ℕ} {cs : List ℤ} {ks : List ℕ} {n : ℕ} → Held t cs ks n → NegateReady cs ks n
-negate-ready h = record { coeffs = h .coeffs; keys = h .keys; within = h .within }
+pub negate-ready : {t : List ℕ} {cs : List ℤ} {ks : List ℕ} {n : ℕ} → Room cs ks → Held t cs ks n → NegateReady cs ks n
+negate-ready r h = record { coeffs = omega (arith, h .most, r .coeffs); keys = omega (arith, h .most, r .keys); within = h .within }
 
-pub negate-held : {t : List ℕ} {cs cs' : List ℤ} {ks : List ℕ} {n : ℕ} → Held t cs ks n → NegatedIs cs ks n cs' → length cs' ≡ length cs → Held t cs' ks n
-negate-held h p l = record { most = h .most; coeffs = omega (arith, h .coeffs); keys = h .keys; nodes = h .nodes; within = p .within }
+pub negate-held : {t : List ℕ} {cs cs' : List ℤ} {ks : List ℕ} {n : ℕ} → Held t cs ks n → NegatedIs cs ks n cs' → Held t cs' ks n
+negate-held h p = record { most = h .most; nodes = h .nodes; within = p .within }
 
 -- ---- where a sign says so
 -- the first n entries are turned by b
@@ -161,4 +161,4 @@ module _ {b : Bool} {cs cs' : List ℤ} {ks : List ℕ} {n : ℕ} where
   turned-no e w f = rw (e, f) (record { is = λ d. sym (turn-is-same (entries d cs ks n)); within = w; coeffs = refl })
 
   pub turned-held : {t : List ℕ} → Held t cs ks n → TurnedIs b cs ks n cs' → Held t cs' ks n
-  turned-held h p = record { most = h .most; coeffs = omega (arith, h .coeffs, p .coeffs); keys = h .keys; nodes = h .nodes; within = p .within }
+  turned-held h p = record { most = h .most; nodes = h .nodes; within = p .within }

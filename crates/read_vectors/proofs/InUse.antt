@@ -13,4 +13,4 @@ use Rattle.reader.specs.declared.Whole.the-variants.{All}
 
 pub in-use : (s t u w x : List ℕ) (r : Whole) (k n c : ℕ) → ReadsFile s t u w x r → r ≡ All k n c → (k ≤ maxCommands) × (allWords ≤ length x) × (n ≤ maxNodes) × (c ≤ maxNodes) × (minTable ≤ length u)
 in-use s t u w x r k n c h e =
-    let (a, table, b, d) = subst (ReadsFile s t u w x) e h in (d .few, d .room, table .few, omega (arith, table .few, table .used), table .room)
+    let (a, table, b, d, listed) = subst (ReadsFile s t u w x) e h in (listed .few, listed .room, table .few, omega (arith, table .few, table .used), table .room)

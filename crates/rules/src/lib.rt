@@ -16,6 +16,9 @@ use matching::NEGATIVE_IN_SATURATION;
 use matching::WRONG_LENGTH_OF_CLAUSE;
 use matching::WRONG_NUMBER_OF_ARGS;
 use matching::WRONG_NUMBER_OF_PREMISES;
+use sums::CONCLUSION;
+use sums::LEFT;
+use sums::RIGHT;
 ghost use mathlib.Core.Path.{_≡_};
 ghost use Prim.Native.Nat.{_+_, _*_, _≤_, _<_};
 ghost use lib.IntN.{pos};
@@ -27,10 +30,13 @@ ghost use Rattle.calculus.specs.Sums.{maxSummands};
 ghost use Rattle.calculus.specs.Terms.{sameInteger};
 ghost use Rattle.calculus.specs.Words.{maxNumeral};
 ghost use Rattle.nodes.specs.Nodes.{Node};
-ghost use Rattle.matching.specs.Matched.{variableOf, AllNodes};
+ghost use Rattle.matching.specs.Entries.{Literals};
+ghost use Rattle.matching.specs.Matched.{variableOf, Variable, AllNodes};
 ghost use Rattle.normalize.specs.Lists.{Room as Lines};
-ghost use Rattle.sums.specs.Lists.{Room, Fine, Listed, Keyed, Bounded, maxEntries, maxTotal, maxAdded};
-ghost use Rattle.rules.specs.Checked.{firstNumber, TwoRead, ThreeRead, CappedCheck, mapOf, ByIs, AgreesIs, AllAgree, CheckIs, timesTerms, overTerms, Anything, Positive, ScaledIs, CappedIs, Nonnegative, CoefficientIs, EntryIs, FaceIs, CoefficientsAre, ZerosFace, SumsAgree, AddedIs};
+ghost use Rattle.matching.specs.Places.{maxEntries, placed};
+ghost use Rattle.sums.specs.Lists.{Fine, Bounded, maxTotal, maxAdded};
+ghost use Rattle.sums.specs.Places.{slotted, leftAt, rightAt, conclusionAt, Listed, Keyed, Rooms};
+ghost use Rattle.rules.specs.Checked.{firstNumber, TwoAt, ThreeAt, CappedCheck, mapOf, ByIs, AgreesIs, AllAgree, CheckIs, timesTerms, overTerms, Anything, Positive, ScaledIs, CappedIs, Nonnegative, CoefficientIs, EntryIs, FaceIs, CoefficientsAre, ZerosFace, SumsAgree, AddedAt};
 ghost use Rattle.links.specs.Steps.{Step, RuleIs};
 
 // ---- tests
@@ -66,20 +72,23 @@ fn unwrap_two(
     coeffs: &mut [i64],
     keys: &mut [u32],
     slots: &mut [u16],
-    coeffs2: &mut [i64],
-    keys2: &mut [u32],
-    slots2: &mut [u16],
 ) -> Two
     requires { ⌜ Node (now nodes) clause × Node (now nodes) conclusion ⌝ }
-    requires { ⌜ Room (now coeffs) (now keys) (now slots) ⌝ }
-    requires { ⌜ Room (now coeffs2) (now keys2) (now slots2) ⌝ }
-    ensures { λ r. ⌜ TwoRead (now (nodes .entry)) clause conclusion r (now (coeffs .exit)) (now (keys .exit)) (now (slots .exit)) (now (coeffs2 .exit)) (now (keys2 .exit)) (now (slots2 .exit)) ⌝ }
+    requires { ⌜ Rooms (now coeffs) (now keys) (now slots) ⌝ }
+    ensures { λ r. ⌜ TwoAt (now (nodes .entry)) clause conclusion (now (coeffs .exit)) (now (keys .exit)) (now (slots .exit)) r ⌝ }
 {
     // Unwrap the premise inequality
-    let p = sums::unwrap_pseudoboolean_inequality(nodes, clause, coeffs, keys, slots);
+    let p = sums::unwrap_pseudoboolean_inequality(nodes, clause, coeffs, keys, slots, LEFT);
 
     // Unwrap the conclusion inequality
-    let c = sums::unwrap_pseudoboolean_inequality(nodes, conclusion, coeffs2, keys2, slots2);
+    let c = sums::unwrap_pseudoboolean_inequality(
+        nodes,
+        conclusion,
+        coeffs,
+        keys,
+        slots,
+        CONCLUSION,
+    );
     Two {
         number: first_number(p.number, c.number),
         constant: p.constant,
@@ -109,25 +118,24 @@ fn unwrap_three(
     coeffs: &mut [i64],
     keys: &mut [u32],
     slots: &mut [u16],
-    coeffs2: &mut [i64],
-    keys2: &mut [u32],
-    slots2: &mut [u16],
-    coeffs3: &mut [i64],
-    keys3: &mut [u32],
-    slots3: &mut [u16],
 ) -> Three
     requires { ⌜ Node (now nodes) left × Node (now nodes) right × Node (now nodes) conclusion ⌝ }
-    requires { ⌜ Room (now coeffs) (now keys) (now slots) ⌝ }
-    requires { ⌜ Room (now coeffs2) (now keys2) (now slots2) ⌝ }
-    requires { ⌜ Room (now coeffs3) (now keys3) (now slots3) ⌝ }
-    ensures { λ r. ⌜ ThreeRead (now (nodes .entry)) left right conclusion r (now (coeffs .exit)) (now (keys .exit)) (now (slots .exit)) (now (coeffs2 .exit)) (now (keys2 .exit)) (now (slots2 .exit)) (now (coeffs3 .exit)) (now (keys3 .exit)) (now (slots3 .exit)) ⌝ }
+    requires { ⌜ Rooms (now coeffs) (now keys) (now slots) ⌝ }
+    ensures { λ r. ⌜ ThreeAt (now (nodes .entry)) left right conclusion (now (coeffs .exit)) (now (keys .exit)) (now (slots .exit)) r ⌝ }
 {
     // Unwrap the premise inequality
-    let l = sums::unwrap_pseudoboolean_inequality(nodes, left, coeffs, keys, slots);
-    let r = sums::unwrap_pseudoboolean_inequality(nodes, right, coeffs2, keys2, slots2);
+    let l = sums::unwrap_pseudoboolean_inequality(nodes, left, coeffs, keys, slots, LEFT);
+    let r = sums::unwrap_pseudoboolean_inequality(nodes, right, coeffs, keys, slots, RIGHT);
 
     // Unwrap the conclusion inequality
-    let c = sums::unwrap_pseudoboolean_inequality(nodes, conclusion, coeffs3, keys3, slots3);
+    let c = sums::unwrap_pseudoboolean_inequality(
+        nodes,
+        conclusion,
+        coeffs,
+        keys,
+        slots,
+        CONCLUSION,
+    );
     let number = first_number(l.number, first_number(r.number, c.number));
     let total = integer::add(l.constant, r.constant);
     Three {
@@ -141,7 +149,7 @@ fn unwrap_three(
 }
 
 // ---- cp_addition
-// The coefficient of a key; 0 where it is none.
+// The reduced coefficient of a key, 0 where it is none: the keys stand where the first premise's do, the coefficients where the second's stood.
 fn coefficient_at(
     nodes: &[u32],
     coeffs: &[i64],
@@ -150,12 +158,12 @@ fn coefficient_at(
     n: usize,
     key: u32,
 ) -> i64
-    requires { ⌜ Keyed (now nodes) (now keys) (now slots) n × (n ≤ length (now coeffs)) ⌝ }
-    requires { ⌜ Node (now nodes) (variableOf key) ⌝ }
-    ensures { λ r. ⌜ CoefficientIs (now (nodes .entry)) (now (coeffs .entry)) (now (keys .entry)) n key r ⌝ }
+    requires { ⌜ Keyed (now nodes) leftAt (now keys) (now slots) n × (rightAt + n ≤ length (now coeffs)) ⌝ }
+    requires { ⌜ Variable (now nodes) (variableOf key) ⌝ }
+    ensures { λ r. ⌜ CoefficientIs (now (nodes .entry)) (placed rightAt (now (coeffs .entry))) (placed leftAt (now (keys .entry))) n key r ⌝ }
 {
-    let j = sums::find(nodes, keys, slots, n, key);
-    if j < n { coeffs[j] } else { 0 }
+    let j = sums::find(nodes, keys, slots, LEFT, n, key);
+    if j < n { coeffs[RIGHT + j] } else { 0 }
 }
 
 // An entry of the conclusion: its coefficient c is 0, or the reduced one of its key.
@@ -168,9 +176,9 @@ fn coefficient_is(
     c: i64,
     key: u32,
 ) -> bool
-    requires { ⌜ Keyed (now nodes) (now keys) (now slots) n × (n ≤ length (now coeffs)) ⌝ }
-    requires { ⌜ Node (now nodes) (variableOf key) ⌝ }
-    ensures { λ r. ⌜ EntryIs (now (nodes .entry)) (now (coeffs .entry)) (now (keys .entry)) n c key r ⌝ }
+    requires { ⌜ Keyed (now nodes) leftAt (now keys) (now slots) n × (rightAt + n ≤ length (now coeffs)) ⌝ }
+    requires { ⌜ Variable (now nodes) (variableOf key) ⌝ }
+    ensures { λ r. ⌜ EntryIs (now (nodes .entry)) (placed rightAt (now (coeffs .entry))) (placed leftAt (now (keys .entry))) n c key r ⌝ }
 {
     if same_integer(c, 0) {
         return true;
@@ -185,17 +193,17 @@ fn coefficients_are(
     keys: &[u32],
     slots: &[u16],
     n: usize,
-    coeffs2: &[i64],
-    keys2: &[u32],
     m: usize,
 ) -> bool
-    requires { ⌜ Keyed (now nodes) (now keys) (now slots) n × (n ≤ length (now coeffs)) ⌝ }
-    requires { ⌜ Listed (now nodes) (now coeffs2) (now keys2) m ⌝ }
-    ensures { λ r. ⌜ CoefficientsAre (now (nodes .entry)) (now (coeffs .entry)) (now (keys .entry)) n (now (coeffs2 .entry)) (now (keys2 .entry)) m r ⌝ }
+    requires { ⌜ Keyed (now nodes) leftAt (now keys) (now slots) n × (rightAt + n ≤ length (now coeffs)) ⌝ }
+    requires { ⌜ Listed (now nodes) conclusionAt conclusionAt (now coeffs) (now keys) m ⌝ }
+    ensures { λ r. ⌜ CoefficientsAre (now (nodes .entry)) (placed rightAt (now (coeffs .entry))) (placed leftAt (now (keys .entry))) n (placed conclusionAt (now (coeffs .entry))) (placed conclusionAt (now (keys .entry))) m r ⌝ }
 {
     let mut i: usize = 0;
     while i < m {
-        if !coefficient_is(nodes, coeffs, keys, slots, n, coeffs2[i], keys2[i]) {
+        let c = coeffs[CONCLUSION + i];
+        let key = keys[CONCLUSION + i];
+        if !coefficient_is(nodes, coeffs, keys, slots, n, c, key) {
             return false;
         }
         i += 1;
@@ -213,9 +221,9 @@ fn zero_faces_zero(
     c: i64,
     key: u32,
 ) -> bool
-    requires { ⌜ Keyed (now nodes) (now keys) (now slots) n × (n ≤ length (now coeffs)) ⌝ }
-    requires { ⌜ Node (now nodes) (variableOf key) ⌝ }
-    ensures { λ r. ⌜ FaceIs (now (nodes .entry)) (now (coeffs .entry)) (now (keys .entry)) n c key r ⌝ }
+    requires { ⌜ Keyed (now nodes) leftAt (now keys) (now slots) n × (rightAt + n ≤ length (now coeffs)) ⌝ }
+    requires { ⌜ Variable (now nodes) (variableOf key) ⌝ }
+    ensures { λ r. ⌜ FaceIs (now (nodes .entry)) (placed rightAt (now (coeffs .entry))) (placed leftAt (now (keys .entry))) n c key r ⌝ }
 {
     if !same_integer(c, 0) {
         return true;
@@ -230,17 +238,17 @@ fn zeros_face_zeros(
     keys: &[u32],
     slots: &[u16],
     n: usize,
-    coeffs2: &[i64],
-    keys2: &[u32],
     m: usize,
 ) -> bool
-    requires { ⌜ Keyed (now nodes) (now keys) (now slots) n × (n ≤ length (now coeffs)) ⌝ }
-    requires { ⌜ Listed (now nodes) (now coeffs2) (now keys2) m ⌝ }
-    ensures { λ r. ⌜ ZerosFace (now (nodes .entry)) (now (coeffs .entry)) (now (keys .entry)) n (now (coeffs2 .entry)) (now (keys2 .entry)) m r ⌝ }
+    requires { ⌜ Keyed (now nodes) leftAt (now keys) (now slots) n × (rightAt + n ≤ length (now coeffs)) ⌝ }
+    requires { ⌜ Listed (now nodes) conclusionAt conclusionAt (now coeffs) (now keys) m ⌝ }
+    ensures { λ r. ⌜ ZerosFace (now (nodes .entry)) (placed rightAt (now (coeffs .entry))) (placed leftAt (now (keys .entry))) n (placed conclusionAt (now (coeffs .entry))) (placed conclusionAt (now (keys .entry))) m r ⌝ }
 {
     let mut i: usize = 0;
     while i < m {
-        if !zero_faces_zero(nodes, coeffs, keys, slots, n, coeffs2[i], keys2[i]) {
+        let c = coeffs[CONCLUSION + i];
+        let key = keys[CONCLUSION + i];
+        if !zero_faces_zero(nodes, coeffs, keys, slots, n, c, key) {
             return false;
         }
         i += 1;
@@ -248,105 +256,76 @@ fn zeros_face_zeros(
     true
 }
 
-// The reduced sum against the conclusion's: constants 29, keys 30, coefficients 31. `total` is the sum of the premises' constants,
-// `names` says whether all variables are names.
+// The reduced sum, its coefficients where the second premise's stood and its n keys where the first's stand, against the conclusion's: constants 29, keys 30,
+// coefficients 31. `names` says whether all variables are names.
 fn sums_agree(
     nodes: &[u32],
-    number: u8,
-    total: i64,
+    three: Three,
     slack: i64,
-    reduced: &[i64],
+    coeffs: &[i64],
     keys: &[u32],
     slots: &[u16],
     n: usize,
-    constant: i64,
-    coeffs2: &[i64],
-    keys2: &[u32],
-    slots2: &[u16],
-    m: usize,
     names: bool,
 ) -> Answer
-    requires { ⌜ Within maxNumeral constant × Within (maxEntries * maxAdded) slack ⌝ }
-    requires { ⌜ Keyed (now nodes) (now keys) (now slots) n × (n ≤ length (now reduced)) ⌝ }
-    requires { ⌜ Keyed (now nodes) (now keys2) (now slots2) m × (m ≤ length (now coeffs2)) ⌝ }
-    ensures { λ r. ⌜ SumsAgree (now (nodes .entry)) number total slack (now (reduced .entry)) (now (keys .entry)) n constant (now (coeffs2 .entry)) (now (keys2 .entry)) m names r ⌝ }
+    requires { ⌜ Within maxNumeral (three .constant) × Within (maxNumeral + maxNumeral) (three .total) × Within (maxEntries * maxAdded) slack ⌝ }
+    requires { ⌜ Keyed (now nodes) leftAt (now keys) (now slots) n × (rightAt + n ≤ length (now coeffs)) ⌝ }
+    requires { ⌜ Keyed (now nodes) conclusionAt (now keys) (now slots) (three .count3) × (conclusionAt + three .count3 ≤ length (now coeffs)) ⌝ }
+    ensures { λ r. ⌜ SumsAgree (now (nodes .entry)) three slack (placed rightAt (now (coeffs .entry))) (placed leftAt (now (keys .entry))) n (placed conclusionAt (now (coeffs .entry))) (placed conclusionAt (now (keys .entry))) names r ⌝ }
 {
     // an inequality that was not read
-    if number != 0 {
-        return Answer::Refused(number);
+    if three.number != 0 {
+        return Answer::Refused(three.number);
     }
+    let m = three.count3;
 
     // Verify constants match (with slack)
-    if !same_integer(total, integer::add(constant, slack)) {
+    if !same_integer(three.total, integer::add(three.constant, slack)) {
         return Answer::Refused(CONSTANTS_DIFFER);
     }
 
     // Verify premise and conclusion share same keys
-    if !sums::assert_pbsum_same_keys(nodes, reduced, keys, slots, n, coeffs2, keys2, slots2, m) {
+    if !sums::assert_pbsum_same_keys(nodes, coeffs, keys, slots, RIGHT, LEFT, n, CONCLUSION, m) {
         return Answer::Refused(LITERAL_MISSING);
     }
 
     // Verify pseudo-boolean sums match
-    if !coefficients_are(nodes, reduced, keys, slots, n, coeffs2, keys2, m) {
+    if !coefficients_are(nodes, coeffs, keys, slots, n, m) {
         return Answer::Refused(COEFFICIENT_DIFFERS);
     }
-    Answer::Accepted(matching::both(
-        names,
-        zeros_face_zeros(nodes, reduced, keys, slots, n, coeffs2, keys2, m),
-    ))
+    Answer::Accepted(matching::both(names, zeros_face_zeros(nodes, coeffs, keys, slots, n, m)))
 }
 
-// Two sums, added and reduced, against the conclusion's; the first is where they are added.
+// Two sums, added and reduced, against the conclusion's: they are added where the first stands, and the reduced coefficients go where the second's stood.
 fn added(
     nodes: &[u32],
     three: Three,
     coeffs: &mut [i64],
     keys: &mut [u32],
     slots: &mut [u16],
-    coeffs2: &[i64],
-    keys2: &[u32],
-    coeffs3: &[i64],
-    keys3: &[u32],
-    slots3: &[u16],
-    reduced: &mut [i64],
 ) -> Answer
-    requires { ⌜ Room (now coeffs) (now keys) (now slots) × (maxEntries ≤ length (now reduced)) ⌝ }
-    requires { ⌜ Fine (now nodes) (now keys) (now slots) (three .count) × (three .count ≤ maxSummands) × Bounded maxTotal (now coeffs) (three .count) ⌝ }
-    requires { ⌜ Listed (now nodes) (now coeffs2) (now keys2) (three .count2) × (three .count2 ≤ maxSummands) × Bounded maxTotal (now coeffs2) (three .count2) ⌝ }
-    requires { ⌜ Keyed (now nodes) (now keys3) (now slots3) (three .count3) × (three .count3 ≤ length (now coeffs3)) × Within maxNumeral (three .constant) ⌝ }
+    requires { ⌜ Rooms (now coeffs) (now keys) (now slots) ⌝ }
+    requires { ⌜ Fine (now nodes) (placed leftAt (now keys)) (slotted leftAt (now slots)) (three .count) × (three .count ≤ maxSummands) × Bounded maxTotal (placed leftAt (now coeffs)) (three .count) ⌝ }
+    requires { ⌜ Literals (now nodes) (placed rightAt (now keys)) (three .count2) × (three .count2 ≤ maxSummands) × Bounded maxTotal (placed rightAt (now coeffs)) (three .count2) ⌝ }
+    requires { ⌜ Fine (now nodes) (placed conclusionAt (now keys)) (slotted conclusionAt (now slots)) (three .count3) × Within maxNumeral (three .constant) ⌝ }
     requires { ⌜ Within (maxNumeral + maxNumeral) (three .total) ⌝ }
-    ensures { λ r. ⌜ AddedIs (now (nodes .entry)) three (now (coeffs .entry)) (now (keys .entry)) (now (coeffs2 .entry)) (now (keys2 .entry)) (now (coeffs3 .entry)) (now (keys3 .entry)) r ⌝ }
+    ensures { λ r. ⌜ AddedAt (now (nodes .entry)) three (now (coeffs .entry)) (now (keys .entry)) r ⌝ }
 {
     let n = three.count;
     let m = three.count2;
     let k = three.count3;
     let premises = matching::both(
-        matching::all_names(nodes, keys, n),
-        matching::all_names(nodes, keys2, m),
+        matching::all_names(nodes, keys, LEFT, n),
+        matching::all_names(nodes, keys, RIGHT, m),
     );
-    let names = matching::both(premises, matching::all_names(nodes, keys3, k));
+    let names = matching::both(premises, matching::all_names(nodes, keys, CONCLUSION, k));
 
     // Add both sides regardless of negation
-    let both = sums::add_pbsums(nodes, coeffs, keys, slots, n, coeffs2, keys2, m);
+    let both = sums::add_pbsums(nodes, coeffs, keys, slots, LEFT, n, RIGHT, m);
 
     // Apply reduction to cancel out opposite coefficients
-    let slack = sums::reduce_pbsum(nodes, coeffs, keys, slots, both, reduced);
-    sums_agree(
-        nodes,
-        three.number,
-        three.total,
-        slack.slack,
-        reduced,
-        keys,
-        slots,
-        both,
-        three.constant,
-        coeffs3,
-        keys3,
-        slots3,
-        k,
-        names,
-    )
+    let slack = sums::reduce_pbsum(nodes, coeffs, keys, slots, LEFT, both, RIGHT);
+    sums_agree(nodes, three, slack.slack, coeffs, keys, slots, both, names)
 }
 
 // The sum of two inequalities.
@@ -359,52 +338,17 @@ pub fn cp_addition(
     coeffs: &mut [i64],
     keys: &mut [u32],
     slots: &mut [u16],
-    coeffs2: &mut [i64],
-    keys2: &mut [u32],
-    slots2: &mut [u16],
-    coeffs3: &mut [i64],
-    keys3: &mut [u32],
-    slots3: &mut [u16],
-    reduced: &mut [i64],
 ) -> Answer
     requires { ⌜ Step (now nodes) (now commands) (now premises) (now args) ⌝ }
     requires { ⌜ AllNodes (now nodes) (now conclusion) ⌝ }
-    requires { ⌜ Room (now coeffs) (now keys) (now slots) × (maxEntries ≤ length (now reduced)) ⌝ }
-    requires { ⌜ Room (now coeffs2) (now keys2) (now slots2) ⌝ }
-    requires { ⌜ Room (now coeffs3) (now keys3) (now slots3) ⌝ }
+    requires { ⌜ Rooms (now coeffs) (now keys) (now slots) ⌝ }
     ensures { λ r. ⌜ RuleIs cpAddition (now (nodes .entry)) (now (commands .entry)) (now (premises .entry)) (now (args .entry)) (now (conclusion .entry)) r ⌝ }
 {
     match two_premises(nodes, commands, premises, args, conclusion) {
         Both::Refused(number) => Answer::Refused(number),
         Both::Of(left, right, conclusion) => {
-            let three = unwrap_three(
-                nodes,
-                left,
-                right,
-                conclusion,
-                coeffs,
-                keys,
-                slots,
-                coeffs2,
-                keys2,
-                slots2,
-                coeffs3,
-                keys3,
-                slots3,
-            );
-            added(
-                nodes,
-                three,
-                coeffs,
-                keys,
-                slots,
-                coeffs2,
-                keys2,
-                coeffs3,
-                keys3,
-                slots3,
-                reduced,
-            )
+            let three = unwrap_three(nodes, left, right, conclusion, coeffs, keys, slots);
+            added(nodes, three, coeffs, keys, slots)
         }
     }
 }
@@ -436,22 +380,20 @@ fn coefficient_agrees(
     by: By,
     coeffs: &[i64],
     keys: &[u32],
+    slots: &[u16],
     i: usize,
-    coeffs2: &[i64],
-    keys2: &[u32],
-    slots2: &[u16],
     m: usize,
 ) -> bool
     requires { ⌜ ByIs by ⌝ }
-    requires { ⌜ (i < length (now coeffs)) × (i < length (now keys)) × Node (now nodes) (variableOf (getD (now keys) i 0)) × Within maxTotal (getD (now coeffs) i (pos 0)) ⌝ }
-    requires { ⌜ Keyed (now nodes) (now keys2) (now slots2) m × (m ≤ length (now coeffs2)) ⌝ }
-    ensures { λ r. ⌜ AgreesIs (now (nodes .entry)) (mapOf by) (now (coeffs .entry)) (now (keys .entry)) i (now (coeffs2 .entry)) (now (keys2 .entry)) m r ⌝ }
+    requires { ⌜ (i < maxEntries) × (leftAt + i < length (now coeffs)) × (leftAt + i < length (now keys)) × Variable (now nodes) (variableOf (getD (placed leftAt (now keys)) i 0)) × Within maxTotal (getD (placed leftAt (now coeffs)) i (pos 0)) ⌝ }
+    requires { ⌜ Keyed (now nodes) conclusionAt (now keys) (now slots) m × (conclusionAt + m ≤ length (now coeffs)) ⌝ }
+    ensures { λ r. ⌜ AgreesIs (now (nodes .entry)) (mapOf by) (placed leftAt (now (coeffs .entry))) (placed leftAt (now (keys .entry))) i (placed conclusionAt (now (coeffs .entry))) (placed conclusionAt (now (keys .entry))) m r ⌝ }
 {
-    let j = sums::find(nodes, keys2, slots2, m, keys[i]);
+    let j = sums::find(nodes, keys, slots, CONCLUSION, m, keys[LEFT + i]);
     if j >= m {
         return true;
     }
-    same_integer(apply(by, coeffs[i]), coeffs2[j])
+    same_integer(apply(by, coeffs[LEFT + i]), coeffs[CONCLUSION + j])
 }
 
 // Whether every coefficient that both have is what the rule makes of the premise's.
@@ -460,20 +402,18 @@ fn coefficients_agree(
     by: By,
     coeffs: &[i64],
     keys: &[u32],
+    slots: &[u16],
     n: usize,
-    coeffs2: &[i64],
-    keys2: &[u32],
-    slots2: &[u16],
     m: usize,
 ) -> bool
     requires { ⌜ ByIs by ⌝ }
-    requires { ⌜ Listed (now nodes) (now coeffs) (now keys) n × Bounded maxTotal (now coeffs) n ⌝ }
-    requires { ⌜ Keyed (now nodes) (now keys2) (now slots2) m × (m ≤ length (now coeffs2)) ⌝ }
-    ensures { λ r. ⌜ AllAgree (now (nodes .entry)) (mapOf by) (now (coeffs .entry)) (now (keys .entry)) n (now (coeffs2 .entry)) (now (keys2 .entry)) m r ⌝ }
+    requires { ⌜ Listed (now nodes) leftAt leftAt (now coeffs) (now keys) n × Bounded maxTotal (placed leftAt (now coeffs)) n ⌝ }
+    requires { ⌜ Keyed (now nodes) conclusionAt (now keys) (now slots) m × (conclusionAt + m ≤ length (now coeffs)) ⌝ }
+    ensures { λ r. ⌜ AllAgree (now (nodes .entry)) (mapOf by) (placed leftAt (now (coeffs .entry))) (placed leftAt (now (keys .entry))) n (placed conclusionAt (now (coeffs .entry))) (placed conclusionAt (now (keys .entry))) m r ⌝ }
 {
     let mut i: usize = 0;
     while i < n {
-        if !coefficient_agrees(nodes, by, coeffs, keys, i, coeffs2, keys2, slots2, m) {
+        if !coefficient_agrees(nodes, by, coeffs, keys, slots, i, m) {
             return false;
         }
         i += 1;
@@ -482,21 +422,11 @@ fn coefficients_agree(
 }
 
 // The conclusion against the premise, both read or not: constants 29, keys 30, coefficients 31.
-fn by_check(
-    nodes: &[u32],
-    by: By,
-    two: Two,
-    coeffs: &[i64],
-    keys: &[u32],
-    slots: &[u16],
-    coeffs2: &[i64],
-    keys2: &[u32],
-    slots2: &[u16],
-) -> Answer
+fn by_check(nodes: &[u32], by: By, two: Two, coeffs: &[i64], keys: &[u32], slots: &[u16]) -> Answer
     requires { ⌜ ByIs by × Within maxNumeral (two .constant) × Within maxNumeral (two .constant2) ⌝ }
-    requires { ⌜ Keyed (now nodes) (now keys) (now slots) (two .count) × (two .count ≤ length (now coeffs)) × Bounded maxTotal (now coeffs) (two .count) ⌝ }
-    requires { ⌜ Keyed (now nodes) (now keys2) (now slots2) (two .count2) × (two .count2 ≤ length (now coeffs2)) ⌝ }
-    ensures { λ r. ⌜ CheckIs (now (nodes .entry)) (mapOf by) two (now (coeffs .entry)) (now (keys .entry)) (now (coeffs2 .entry)) (now (keys2 .entry)) r ⌝ }
+    requires { ⌜ Keyed (now nodes) leftAt (now keys) (now slots) (two .count) × (leftAt + two .count ≤ length (now coeffs)) × Bounded maxTotal (placed leftAt (now coeffs)) (two .count) ⌝ }
+    requires { ⌜ Keyed (now nodes) conclusionAt (now keys) (now slots) (two .count2) × (conclusionAt + two .count2 ≤ length (now coeffs)) ⌝ }
+    ensures { λ r. ⌜ CheckIs (now (nodes .entry)) (mapOf by) two (placed leftAt (now (coeffs .entry))) (placed leftAt (now (keys .entry))) (placed conclusionAt (now (coeffs .entry))) (placed conclusionAt (now (keys .entry))) r ⌝ }
 {
     // an inequality that was not read
     if two.number != 0 {
@@ -511,17 +441,17 @@ fn by_check(
     }
 
     // Verify premise and conclusion share same keys
-    if !sums::assert_pbsum_same_keys(nodes, coeffs, keys, slots, n, coeffs2, keys2, slots2, m) {
+    if !sums::assert_pbsum_same_keys(nodes, coeffs, keys, slots, LEFT, LEFT, n, CONCLUSION, m) {
         return Answer::Refused(LITERAL_MISSING);
     }
 
     // Verify pseudo-boolean sums match
-    if !coefficients_agree(nodes, by, coeffs, keys, n, coeffs2, keys2, slots2, m) {
+    if !coefficients_agree(nodes, by, coeffs, keys, slots, n, m) {
         return Answer::Refused(COEFFICIENT_DIFFERS);
     }
     Answer::Accepted(matching::both(
-        matching::all_names(nodes, keys, n),
-        matching::all_names(nodes, keys2, m),
+        matching::all_names(nodes, keys, LEFT, n),
+        matching::all_names(nodes, keys, CONCLUSION, m),
     ))
 }
 
@@ -574,41 +504,17 @@ pub fn cp_multiplication(
     coeffs: &mut [i64],
     keys: &mut [u32],
     slots: &mut [u16],
-    coeffs2: &mut [i64],
-    keys2: &mut [u32],
-    slots2: &mut [u16],
 ) -> Answer
     requires { ⌜ Step (now nodes) (now commands) (now premises) (now args) ⌝ }
     requires { ⌜ AllNodes (now nodes) (now conclusion) ⌝ }
-    requires { ⌜ Room (now coeffs) (now keys) (now slots) ⌝ }
-    requires { ⌜ Room (now coeffs2) (now keys2) (now slots2) ⌝ }
+    requires { ⌜ Rooms (now coeffs) (now keys) (now slots) ⌝ }
     ensures { λ r. ⌜ RuleIs cpMultiplication (now (nodes .entry)) (now (commands .entry)) (now (premises .entry)) (now (args .entry)) (now (conclusion .entry)) r ⌝ }
 {
     match scalar_of(nodes, commands, premises, args, conclusion) {
         Scaled::Refused(number) => Answer::Refused(number),
         Scaled::Of(clause, scalar, conclusion) => {
-            let two = unwrap_two(
-                nodes,
-                clause,
-                conclusion,
-                coeffs,
-                keys,
-                slots,
-                coeffs2,
-                keys2,
-                slots2,
-            );
-            by_check(
-                nodes,
-                By::Times(scalar),
-                two,
-                coeffs,
-                keys,
-                slots,
-                coeffs2,
-                keys2,
-                slots2,
-            )
+            let two = unwrap_two(nodes, clause, conclusion, coeffs, keys, slots);
+            by_check(nodes, By::Times(scalar), two, coeffs, keys, slots)
         }
     }
 }
@@ -658,41 +564,17 @@ pub fn cp_division(
     coeffs: &mut [i64],
     keys: &mut [u32],
     slots: &mut [u16],
-    coeffs2: &mut [i64],
-    keys2: &mut [u32],
-    slots2: &mut [u16],
 ) -> Answer
     requires { ⌜ Step (now nodes) (now commands) (now premises) (now args) ⌝ }
     requires { ⌜ AllNodes (now nodes) (now conclusion) ⌝ }
-    requires { ⌜ Room (now coeffs) (now keys) (now slots) ⌝ }
-    requires { ⌜ Room (now coeffs2) (now keys2) (now slots2) ⌝ }
+    requires { ⌜ Rooms (now coeffs) (now keys) (now slots) ⌝ }
     ensures { λ r. ⌜ RuleIs cpDivision (now (nodes .entry)) (now (commands .entry)) (now (premises .entry)) (now (args .entry)) (now (conclusion .entry)) r ⌝ }
 {
     match divisor_of(nodes, commands, premises, args, conclusion) {
         Scaled::Refused(number) => Answer::Refused(number),
         Scaled::Of(clause, divisor, conclusion) => {
-            let two = unwrap_two(
-                nodes,
-                clause,
-                conclusion,
-                coeffs,
-                keys,
-                slots,
-                coeffs2,
-                keys2,
-                slots2,
-            );
-            by_check(
-                nodes,
-                By::Over(divisor),
-                two,
-                coeffs,
-                keys,
-                slots,
-                coeffs2,
-                keys2,
-                slots2,
-            )
+            let two = unwrap_two(nodes, clause, conclusion, coeffs, keys, slots);
+            by_check(nodes, By::Over(divisor), two, coeffs, keys, slots)
         }
     }
 }
@@ -734,14 +616,14 @@ fn capped_terms(
     Capped::Of(clause[0], conclusion[0])
 }
 
-// Whether each of n coefficients is at least 0.
+// Whether each of the premise's n coefficients is at least 0.
 fn nonnegative(coeffs: &[i64], n: usize) -> bool
-    requires { ⌜ n ≤ length (now coeffs) ⌝ }
-    ensures { λ r. ⌜ Nonnegative (now (coeffs .entry)) n r ⌝ }
+    requires { ⌜ (leftAt + n ≤ length (now coeffs)) × (n ≤ maxEntries) ⌝ }
+    ensures { λ r. ⌜ Nonnegative (placed leftAt (now (coeffs .entry))) n r ⌝ }
 {
     let mut i: usize = 0;
     while i < n {
-        if integer::less(coeffs[i], 0) {
+        if integer::less(coeffs[LEFT + i], 0) {
             return false;
         }
         i += 1;
@@ -750,20 +632,11 @@ fn nonnegative(coeffs: &[i64], n: usize) -> bool
 }
 
 // Saturation's own checks, 32, then the check with the smaller of coefficient and constant.
-fn capped_check(
-    nodes: &[u32],
-    two: Two,
-    coeffs: &[i64],
-    keys: &[u32],
-    slots: &[u16],
-    coeffs2: &[i64],
-    keys2: &[u32],
-    slots2: &[u16],
-) -> Answer
+fn capped_check(nodes: &[u32], two: Two, coeffs: &[i64], keys: &[u32], slots: &[u16]) -> Answer
     requires { ⌜ Within maxNumeral (two .constant) × Within maxNumeral (two .constant2) ⌝ }
-    requires { ⌜ Keyed (now nodes) (now keys) (now slots) (two .count) × (two .count ≤ length (now coeffs)) × Bounded maxTotal (now coeffs) (two .count) ⌝ }
-    requires { ⌜ Keyed (now nodes) (now keys2) (now slots2) (two .count2) × (two .count2 ≤ length (now coeffs2)) ⌝ }
-    ensures { λ r. ⌜ CappedCheck (now (nodes .entry)) two (now (coeffs .entry)) (now (keys .entry)) (now (coeffs2 .entry)) (now (keys2 .entry)) r ⌝ }
+    requires { ⌜ Keyed (now nodes) leftAt (now keys) (now slots) (two .count) × (leftAt + two .count ≤ length (now coeffs)) × Bounded maxTotal (placed leftAt (now coeffs)) (two .count) ⌝ }
+    requires { ⌜ Keyed (now nodes) conclusionAt (now keys) (now slots) (two .count2) × (conclusionAt + two .count2 ≤ length (now coeffs)) ⌝ }
+    ensures { λ r. ⌜ CappedCheck (now (nodes .entry)) two (placed leftAt (now (coeffs .entry))) (placed leftAt (now (keys .entry))) (placed conclusionAt (now (coeffs .entry))) (placed conclusionAt (now (keys .entry))) r ⌝ }
 {
     // an inequality that was not read
     if two.number != 0 {
@@ -777,17 +650,7 @@ fn capped_check(
     if !nonnegative(coeffs, two.count) {
         return Answer::Refused(NEGATIVE_IN_SATURATION);
     }
-    by_check(
-        nodes,
-        By::Cap(two.constant),
-        two,
-        coeffs,
-        keys,
-        slots,
-        coeffs2,
-        keys2,
-        slots2,
-    )
+    by_check(nodes, By::Cap(two.constant), two, coeffs, keys, slots)
 }
 
 // An inequality with its coefficients capped by its constant.
@@ -800,31 +663,17 @@ pub fn cp_saturation(
     coeffs: &mut [i64],
     keys: &mut [u32],
     slots: &mut [u16],
-    coeffs2: &mut [i64],
-    keys2: &mut [u32],
-    slots2: &mut [u16],
 ) -> Answer
     requires { ⌜ Step (now nodes) (now commands) (now premises) (now args) ⌝ }
     requires { ⌜ AllNodes (now nodes) (now conclusion) ⌝ }
-    requires { ⌜ Room (now coeffs) (now keys) (now slots) ⌝ }
-    requires { ⌜ Room (now coeffs2) (now keys2) (now slots2) ⌝ }
+    requires { ⌜ Rooms (now coeffs) (now keys) (now slots) ⌝ }
     ensures { λ r. ⌜ RuleIs cpSaturation (now (nodes .entry)) (now (commands .entry)) (now (premises .entry)) (now (args .entry)) (now (conclusion .entry)) r ⌝ }
 {
     match capped_terms(nodes, commands, premises, args, conclusion) {
         Capped::Refused(number) => Answer::Refused(number),
         Capped::Of(clause, conclusion) => {
-            let two = unwrap_two(
-                nodes,
-                clause,
-                conclusion,
-                coeffs,
-                keys,
-                slots,
-                coeffs2,
-                keys2,
-                slots2,
-            );
-            capped_check(nodes, two, coeffs, keys, slots, coeffs2, keys2, slots2)
+            let two = unwrap_two(nodes, clause, conclusion, coeffs, keys, slots);
+            capped_check(nodes, two, coeffs, keys, slots)
         }
     }
 }
@@ -839,15 +688,13 @@ pub fn cp_normalize(
     conclusion: &[u32],
     coeffs: &mut [i64],
     keys: &mut [u32],
-    coeffs2: &mut [i64],
-    keys2: &mut [u32],
 ) -> Answer
     requires { ⌜ AllNodes (now nodes) (now conclusion) ⌝ }
-    requires { ⌜ Lines (now coeffs) (now keys) × Lines (now coeffs2) (now keys2) ⌝ }
+    requires { ⌜ Lines (now coeffs) (now keys) ⌝ }
     ensures { λ r. ⌜ RuleIs cpNormalize (now (nodes .entry)) (now (commands .entry)) (now (premises .entry)) (now (args .entry)) (now (conclusion .entry)) r ⌝ }
 {
     if conclusion.len() != 1 {
         return Answer::Refused(WRONG_LENGTH_OF_CLAUSE);
     }
-    normalize::normalized(nodes, conclusion[0], coeffs, keys, coeffs2, keys2)
+    normalize::normalized(nodes, conclusion[0], coeffs, keys)
 }

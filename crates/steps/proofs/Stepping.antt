@@ -6,13 +6,13 @@ use native.Mathlib.Omega.{arith}
 use lib.IntN.{ℤ}
 use lib.ListN.{length, getD}
 use Rattle.calculus.specs.Writing.{maxCommands}
-use Rattle.nodes.specs.Nodes.{Below, Table}
+use Rattle.nodes.specs.Nodes.{Below, Table, Firsts}
 use Rattle.nodes.proofs.Tables.{below-at}
 use Rattle.matching.specs.declared.Answer.{Answer}
 use Rattle.matching.specs.Matched.{AllNodes}
 use Rattle.normalize.specs.Lists.{Room as Lines}
 use Rattle.reader.specs.Commands.{allWords, wordAt, kindWord, clauseWord, premisesWord, argumentsWord, partAt}
-use Rattle.sums.specs.Lists.{Room}
+use Rattle.sums.specs.Places.{Rooms}
 use Rattle.links.specs.Steps.{AllUnder, Part, Clause, Step, In}
 use Rattle.steps.specs.Answers.{Given, NumberIs, StepIs}
 
@@ -23,8 +23,8 @@ module _ {t : List ℕ} {n c : ℕ} (table : Table t n c) where
   part-used i j r f h m = record { words = omega arith; inside = omega (arith, table .room, table .few, table .used) }
 
   -- what is below the nodes in use is a node
-  pub nodes-used : (l : List ℕ) → Below n l → AllNodes t l
-  nodes-used l b i h = record { n = n; c = c; table = table; below = below-at l i b h }
+  pub nodes-used : Firsts t n → (l : List ℕ) → Below n l → AllNodes t l
+  nodes-used firsts l b i h = record { n = n; c = c; table = table; firsts = firsts; below = below-at l i b h }
 
 -- ---- what is given of a step
 module _ {t w : List ℕ} {k : ℕ} (g : Given t w k) where
@@ -44,7 +44,7 @@ module _ {t w : List ℕ} {k : ℕ} (g : Given t w k) where
   clause-of : (j : ℕ) → j ≤ k → Clause t w j
   clause-of j h = record {
     part = part-in j clauseWord h (omega arith) (g .each j h .clause);
-    terms = nodes-used (g .table) (partAt t w j clauseWord) (g .each j h .terms);
+    terms = nodes-used (g .table) (g .firsts) (partAt t w j clauseWord) (g .each j h .terms);
   }
 
   above : (i : ℕ) → i < length (partAt t w k premisesWord) → getD (partAt t w k premisesWord) i 0 ≤ k
@@ -53,7 +53,7 @@ module _ {t w : List ℕ} {k : ℕ} (g : Given t w k) where
   step-given : Step t w (partAt t w k premisesWord) (partAt t w k argumentsWord)
   step-given = record {
     premises = λ i h. clause-of (getD (partAt t w k premisesWord) i 0) (above i h);
-    arguments = nodes-used (g .table) (partAt t w k argumentsWord) (g .each k (omega arith) .given);
+    arguments = nodes-used (g .table) (g .firsts) (partAt t w k argumentsWord) (g .each k (omega arith) .given);
   }
 
   pub step-in : (ps xs : List ℕ) → ps ≡ partAt t w k premisesWord → xs ≡ partAt t w k argumentsWord → Step t w ps xs
@@ -73,8 +73,8 @@ module _ {t w : List ℕ} {k : ℕ} (g : Given t w k) where
     conclusion = under m h (partAt t w k clauseWord) (g .each k (omega arith) .terms);
   }
 
--- ---- the slices of normalization
-pub lines-in : {cs : List ℤ} {ks sl : List ℕ} → Room cs ks sl → Lines cs ks
+-- ---- the arrays of normalization
+pub lines-in : {cs : List ℤ} {ks sl : List ℕ} → Rooms cs ks sl → Lines cs ks
 lines-in r = record { coeffs = omega (arith, r .coefficients); keys = omega (arith, r .keys) }
 
 -- ---- the answer over the parts is the step's

@@ -5,7 +5,7 @@ use lib.ListN.{length}
 use Rattle.calculus.specs.Marks.{applyRule}
 use Rattle.calculus.specs.Writing.{maxCommands}
 use Rattle.heads.specs.Heads.{ruleNamed}
-use Rattle.nodes.specs.Nodes.{Table}
+use Rattle.nodes.specs.Nodes.{Table, Firsts}
 use Rattle.matching.specs.declared.Answer.{Answer}
 use Rattle.reader.specs.Commands.{allWords, wordAt, kindWord, clauseWord, premisesWord, argumentsWord, partAt, CommandIn}
 use Rattle.links.specs.Steps.{RuleIs}
@@ -41,6 +41,7 @@ pub record Given (t w : List ℕ) (k : ℕ) : Type 0 where
   pub n : ℕ
   pub c : ℕ
   pub table : Table t n c
+  pub firsts : Firsts t n
   pub room : allWords ≤ length w
   pub few : k < maxCommands
   pub each : (j : ℕ) → j ≤ k → CommandIn t w j n c

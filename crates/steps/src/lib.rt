@@ -8,11 +8,10 @@ use links::word_of;
 use matching::Answer;
 ghost use mathlib.Core.Path.{_≡_};
 ghost use Prim.Native.Nat.{_≤_, _<_};
-ghost use lib.ListN.{length};
 ghost use Rattle.matching.specs.Matched.{AllNodes};
 ghost use Rattle.links.specs.Steps.{Step};
 ghost use Rattle.steps.specs.Answers.{multiplicationNumber, literalNumber, normalizeNumber, Given, NumberIs, StepIs};
-ghost use Rattle.sums.specs.Lists.{Room, maxEntries};
+ghost use Rattle.sums.specs.Places.{Rooms};
 
 // ---- the rules' numbers, as the reader gives them; that of cp_part is the last, 7
 pub const ADDITION: usize = 0;
@@ -63,15 +62,11 @@ fn check_map(
     coeffs: &mut [i64],
     keys: &mut [u32],
     slots: &mut [u16],
-    coeffs2: &mut [i64],
-    keys2: &mut [u32],
-    slots2: &mut [u16],
 ) -> Answer
     requires { ⌜ (multiplicationNumber ≤ rule) × (rule < literalNumber) ⌝ }
     requires { ⌜ Step (now nodes) (now commands) (now premises) (now args) ⌝ }
     requires { ⌜ AllNodes (now nodes) (now conclusion) ⌝ }
-    requires { ⌜ Room (now coeffs) (now keys) (now slots) ⌝ }
-    requires { ⌜ Room (now coeffs2) (now keys2) (now slots2) ⌝ }
+    requires { ⌜ Rooms (now coeffs) (now keys) (now slots) ⌝ }
     ensures { λ r. ⌜ NumberIs rule (now (nodes .entry)) (now (commands .entry)) (now (premises .entry)) (now (args .entry)) (now (conclusion .entry)) r ⌝ }
 {
     if rule == MULTIPLICATION {
@@ -84,9 +79,6 @@ fn check_map(
             coeffs,
             keys,
             slots,
-            coeffs2,
-            keys2,
-            slots2,
         );
     }
     if rule == DIVISION {
@@ -99,9 +91,6 @@ fn check_map(
             coeffs,
             keys,
             slots,
-            coeffs2,
-            keys2,
-            slots2,
         );
     }
     rules::cp_saturation(
@@ -113,9 +102,6 @@ fn check_map(
         coeffs,
         keys,
         slots,
-        coeffs2,
-        keys2,
-        slots2,
     )
 }
 
@@ -127,18 +113,9 @@ pub fn check_step(
     coeffs: &mut [i64],
     keys: &mut [u32],
     slots: &mut [u16],
-    coeffs2: &mut [i64],
-    keys2: &mut [u32],
-    slots2: &mut [u16],
-    coeffs3: &mut [i64],
-    keys3: &mut [u32],
-    slots3: &mut [u16],
-    reduced: &mut [i64],
 ) -> Answer
     requires { ⌜ Given (now nodes) (now commands) k ⌝ }
-    requires { ⌜ Room (now coeffs) (now keys) (now slots) × (maxEntries ≤ length (now reduced)) ⌝ }
-    requires { ⌜ Room (now coeffs2) (now keys2) (now slots2) ⌝ }
-    requires { ⌜ Room (now coeffs3) (now keys3) (now slots3) ⌝ }
+    requires { ⌜ Rooms (now coeffs) (now keys) (now slots) ⌝ }
     ensures { λ r. ⌜ StepIs (now (nodes .entry)) (now (commands .entry)) k r ⌝ }
 {
     let premises = part_of(nodes, commands, k, PREMISES_WORD);
@@ -155,27 +132,10 @@ pub fn check_step(
             coeffs,
             keys,
             slots,
-            coeffs2,
-            keys2,
-            slots2,
-            coeffs3,
-            keys3,
-            slots3,
-            reduced,
         );
     }
     if rule == NORMALIZE {
-        return rules::cp_normalize(
-            nodes,
-            commands,
-            premises,
-            args,
-            conclusion,
-            coeffs,
-            keys,
-            coeffs2,
-            keys2,
-        );
+        return rules::cp_normalize(nodes, commands, premises, args, conclusion, coeffs, keys);
     }
     if rule < LITERAL {
         return check_map(
@@ -188,9 +148,6 @@ pub fn check_step(
             coeffs,
             keys,
             slots,
-            coeffs2,
-            keys2,
-            slots2,
         );
     }
     check_terms(nodes, commands, rule, premises, args, conclusion)

@@ -1,4 +1,5 @@
--- What the functions over sums answer (01, section 2), over every text in which the names may lie.
+-- What the functions over sums answer (01, section 2), over every text in which the names may lie. ..Is speaks of a sum's lists; AppendedAt, PutAt,
+-- ReadAt, InequalityAt and AddAt speak of the lent arrays before and after: the sum at its place is that, and everything elsewhere is as it was.
 use mathlib.Core.Path.{_≡_}
 use mathlib.Core.Bool.{Bool}
 use mathlib.Core.List.{List, [], _∷_, map}
@@ -10,11 +11,15 @@ use Rattle.calculus.specs.Sums.{Entry, entry, put, sameLit, summand, loneConsta
 use Rattle.calculus.specs.Terms.{listed}
 use Rattle.calculus.specs.Words.{Res, ok, bad, maxNumeral}
 use Rattle.nodes.specs.Nodes.{decode, Below, Node}
-use Rattle.matching.specs.Matched.{Text, term, Inner, litAt, variableOf}
+use Rattle.matching.specs.Matched.{Text, term, litAt, variableOf, Variable}
 use Rattle.matching.specs.Entries.{entryAt, entries, Under}
-use Rattle.sums.specs.Lists.{indexOf, noSlot, slotAt, Taken, Bounded, Fine, maxTotal, maxAdded, maxEntries, resOf}
+use Rattle.matching.specs.Places.{maxEntries, placed, Put1}
+use Rattle.sums.specs.Lists.{indexOf, OverName, Bounded, Fine, maxTotal, maxAdded, resOf}
 use Rattle.matching.specs.declared.Constant.{Constant}
 use Rattle.matching.specs.declared.Constant.the-variants as constants
+use Rattle.sums.specs.Places.{slotted, Elsewhere}
+use Rattle.sums.specs.declared.Inequality.{Inequality}
+use Rattle.sums.specs.declared.Read.{Read}
 use Rattle.sums.specs.declared.Summand.{Summand}
 use Rattle.sums.specs.declared.Summand.the-variants as kinds
 
@@ -26,33 +31,21 @@ SameIs t k l r = (x : Text t) → variableOf k < x .n → variableOf l < x .n �
 abbrev pub PlaceIs : (t ks : List ℕ) → ℕ → ℕ → ℕ → Type 0
 PlaceIs t ks n k r = (x : Text t) (cs : List ℤ) → Under (x .n) ks n → variableOf k < x .n → r ≡ indexOf (litAt (term x) k) (entries (term x) cs ks n)
 
+-- and a key over a name that is not found is none of them
 pub record FindIs (t ks : List ℕ) (n k r : ℕ) : Type 0 where
   pub is : PlaceIs t ks n k r
   pub most : r ≤ n
+  pub fresh : OverName t k → n ≤ r → (i : ℕ) → i < n → getD ks i 0 ≡ k → ⊥
 
--- where the first key with a slot stands among the first n
-pub record FirstIs (t ks sl : List ℕ) (n slot r : ℕ) : Type 0 where
-  pub most : r ≤ n
-  pub least : slot < noSlot → (i : ℕ) → i < n → slotAt t (getD ks i 0) ≡ slot → r ≤ i
-  pub taken : r < n → Taken t ks sl n slot
-
--- the slot that a new key takes: no key has it, and where it is not the key's own, that one is taken
-pub record FreeIs (t ks sl : List ℕ) (n k r : ℕ) : Type 0 where
-  pub most : r ≤ noSlot
-  pub apart : r < noSlot → (i : ℕ) → i < n → slotAt t (getD ks i 0) ≡ r → ⊥
-  pub taken : slotAt t k < noSlot → (r ≡ slotAt t k → ⊥) → Taken t ks sl n (slotAt t k)
-
--- r is l but for a at i
-pub record Put1 {A : Type 0} (z : A) (l : List A) (i : ℕ) (a : A) (r : List A) : Type 0 where
-  pub new : getD r i z ≡ a
-  pub old : (m : ℕ) → (m ≡ i → ⊥) → getD r m z ≡ getD l m z
-
--- one entry more, behind n, and its place in a slot
-pub record Appended (cs : List ℤ) (ks sl : List ℕ) (n slot k : ℕ) (c : ℤ) (ds : List ℤ) (ls tl : List ℕ) (r : ℕ) : Type 0 where
+-- one entry more, behind n, and its place in the key's slot
+pub record Appended (cs : List ℤ) (ks sl : List ℕ) (n k : ℕ) (c : ℤ) (ds : List ℤ) (ls tl : List ℕ) (r : ℕ) : Type 0 where
   pub coefficients : Put1 (pos 0) cs n c ds
   pub keys : Put1 0 ks n k ls
-  pub slots : Put1 0 sl slot n tl
+  pub slots : Put1 0 sl k n tl
   pub count : r ≡ n + 1
+
+abbrev pub AppendedAt : (at : ℕ) (cs : List ℤ) (ks sl : List ℕ) (n k : ℕ) (c : ℤ) (ds : List ℤ) (ls tl : List ℕ) (r : ℕ) → Type 0
+AppendedAt at cs ks sl n k c ds ls tl r = Appended (placed at cs) (placed at ks) (slotted at sl) n k c (placed at ds) (placed at ls) (slotted at tl) r × Elsewhere at cs ks sl ds ls tl
 
 -- c was added to the key k of the n entries cs, ks: the r entries ds, ls
 pub record PutIs (t : List ℕ) (cs : List ℤ) (ks : List ℕ) (n k : ℕ) (c : ℤ) (ds : List ℤ) (ls tl : List ℕ) (r : ℕ) : Type 0 where
@@ -62,10 +55,14 @@ pub record PutIs (t : List ℕ) (cs : List ℤ) (ks : List ℕ) (n k : ℕ) (c :
   pub under : (m : ℕ) → Under m ks n → variableOf k < m → Under m ls r
   pub bounded : (B C : ℕ) → Bounded B cs n → Within C c → Bounded (B + C) ds r
 
--- ---- what is read
+abbrev pub PutAt : (t : List ℕ) (at : ℕ) (cs : List ℤ) (ks sl : List ℕ) (n k : ℕ) (c : ℤ) (ds : List ℤ) (ls tl : List ℕ) (r : ℕ) → Type 0
+PutAt t at cs ks sl n k c ds ls tl r = PutIs t (placed at cs) (placed at ks) n k c (placed at ds) (placed at ls) (slotted at tl) r × Elsewhere at cs ks sl ds ls tl
+
+-- ---- what is read, over texts in which the names lie: a key has the first node of a name
 pub record SummandAt (t : List ℕ) (i k : ℕ) (c : ℤ) : Type 0 where
-  pub is : (s : List ℕ) → summand (decode s t i) ≡ ok (entry (litAt (decode s t) k) c)
-  pub inner : Inner t i (variableOf k)
+  pub is : (x : Text t) → i < x .n → summand (term x i) ≡ ok (entry (litAt (term x) k) c)
+  pub variable : Variable t (variableOf k)
+  pub before : variableOf k ≤ i
   pub within : Within maxNumeral c
 
 pub record RefusedAt {A : Type 0} (f : List ℕ → Res A) (number : ℕ) : Type 0 where
@@ -94,6 +91,9 @@ pub record ReadIs (t : List ℕ) (m : ℕ) (want : List ℕ → Res (List Entry)
   pub under : Under m ks n
   pub bounded : Bounded maxTotal cs n
 
+abbrev pub ReadAt : (t : List ℕ) (m : ℕ) (want : List ℕ → Res (List Entry)) (at : ℕ) (cs : List ℤ) (ks sl : List ℕ) (ds : List ℤ) (ls tl : List ℕ) → Read → Type 0
+ReadAt t m want at cs ks sl ds ls tl r = ReadIs t m want (r .number) (placed at ds) (placed at ls) (slotted at tl) (r .count) × Elsewhere at cs ks sl ds ls tl
+
 pub record InequalityIs (t : List ℕ) (i number : ℕ) (constant : ℤ) (cs : List ℤ) (ks sl : List ℕ) (n : ℕ) : Type 0 where
   pub is : (x : Text t) → i < x .n → unwrapInequality (term x i) ≡ resOf number (record { sum = entries (term x) cs ks n; const = constant })
   pub fine : Fine t ks sl n
@@ -101,6 +101,9 @@ pub record InequalityIs (t : List ℕ) (i number : ℕ) (constant : ℤ) (cs : L
   pub under : Under (suc i) ks n
   pub bounded : Bounded maxTotal cs n
   pub within : Within maxNumeral constant
+
+abbrev pub InequalityAt : (t : List ℕ) (i at : ℕ) (cs : List ℤ) (ks sl : List ℕ) (ds : List ℤ) (ls tl : List ℕ) → Inequality → Type 0
+InequalityAt t i at cs ks sl ds ls tl r = InequalityIs t i (r .number) (r .constant) (placed at ds) (placed at ls) (slotted at tl) (r .count) × Elsewhere at cs ks sl ds ls tl
 
 -- ---- keys
 abbrev pub KeptIs : (t : List ℕ) → List ℤ → List ℕ → ℕ → List ℕ → ℕ → Bool → Type 0
@@ -120,6 +123,10 @@ pub record AddIs (t : List ℕ) (cs : List ℤ) (ks : List ℕ) (n : ℕ) (bs : 
   pub fine : Fine t ks' sl' r
   pub under : (l : ℕ) → Under l ks n → Under l ls m → Under l ks' r
   pub bounded : Bounded maxAdded ds r
+
+abbrev pub AddAt : (t : List ℕ) (at : ℕ) (cs : List ℤ) (ks sl : List ℕ) (n at2 m : ℕ) (ds : List ℤ) (ls tl : List ℕ) (r : ℕ) → Type 0
+AddAt t at cs ks sl n at2 m ds ls tl r =
+    AddIs t (placed at cs) (placed at ks) n (placed at2 cs) (placed at2 ks) m (placed at ds) (placed at ls) (slotted at tl) r × Elsewhere at cs ks sl ds ls tl
 
 -- what entry i keeps, and what it adds to the slack
 pub record CancelIs (t : List ℕ) (cs : List ℤ) (ks : List ℕ) (n i : ℕ) (a b : ℤ) : Type 0 where

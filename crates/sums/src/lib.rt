@@ -1,6 +1,5 @@
-// Sums: entry lists in lent slices, written in place. A sum is its coefficients and its keys in order of first appearance, with a count;
-// beside them `slots` holds, for the keys of names with one slot, the place of the first: trusted only where that place is below the count and has that slot,
-// so it is never cleared, and compared with the key that is looked up, since names share slots.
+// Sums: entry lists at places of three lent arrays, written in place. A sum is its coefficients and its keys in order of first appearance, from its place on, with a count;
+// its slots hold for each key over a name where it stands: trusted only where that is below the count and this very key, so they are never cleared.
 use matching::Constant;
 use matching::EXPECTED_ANY_INTEGER;
 use matching::GE;
@@ -14,42 +13,37 @@ use matching::TOO_MANY_SUMMANDS;
 use nodes::NAME_KIND;
 ghost use mathlib.Core.Path.{_≡_};
 ghost use mathlib.Core.List.{List, [], map};
-ghost use Prim.Native.Nat.{ℕ, suc, _≤_, _<_};
+ghost use Prim.Native.Nat.{ℕ, suc, _+_, _*_, _≤_, _<_};
 ghost use lib.ListN.{length, getD};
 ghost use lib.IntN.{pos, _+ℤ_};
 ghost use Rattle.integer.specs.Integers.{Within};
 ghost use Rattle.calculus.specs.Sums.{pbSum, summands, keep, maxSummands};
 ghost use Rattle.calculus.specs.Terms.{listed};
 ghost use Rattle.nodes.specs.Nodes.{decode, Node};
-ghost use Rattle.matching.specs.Entries.{Variables};
-ghost use Rattle.matching.specs.Matched.{variableOf};
-ghost use Rattle.sums.specs.Lists.{Room, Fine, Listed, Keyed, Bounded, noSlot, slotAt, maxEntries, maxTotal, maxAdded, maxCoefficient};
-ghost use Rattle.sums.specs.Found.{SameIs, PlaceIs, FirstIs, FindIs, FreeIs, Put1, Appended, PutIs, SummandIs, Nodes, LoneIs, ReadIs, InequalityIs, KeptIs, SubsetIs, SameKeysIs, AddIs, CancelIs, ReduceIs};
+ghost use Rattle.matching.specs.Entries.{Literals};
+ghost use Rattle.matching.specs.Matched.{variableOf, Variable};
+ghost use Rattle.matching.specs.Places.{maxEntries, maxPlace, placed, Put1, Apart, Others};
+ghost use Rattle.sums.specs.Lists.{Fine, Bounded, keyRoom, maxTotal, maxAdded, maxCoefficient};
+ghost use Rattle.sums.specs.Places.{slotsOf, slotted, Room, Listed, Keyed};
+ghost use Rattle.sums.specs.Found.{SameIs, PlaceIs, FindIs, AppendedAt, PutAt, SummandIs, Nodes, LoneIs, ReadAt, InequalityAt, KeptIs, SubsetIs, SameKeysIs, AddAt, CancelIs, ReduceIs};
 
-// The entries that a lent sum has room for, and its slots; the last is for keys over no name.
-pub const MAX_ENTRIES: usize = 1024;
+// Where the sums of a rule stand: the first premise's, the second's, the conclusion's.
+pub const LEFT: usize = 0;
 
-pub const SLOTS: usize = 2049;
+pub const RIGHT: usize = 1024;
 
-const NO_SLOT: usize = 2048;
+pub const CONCLUSION: usize = 2048;
 
-// Names whose numbers differ by a multiple of this share their slots.
-const SLOT_NAMES: u32 = 1024;
+// The entries that the three have room for, 1,024 each.
+pub const ENTRIES: usize = 3072;
+
+// The slots of one sum, a word for each key.
+const KEYS: usize = 8192;
+
+// The slots of two sums: the second premise and the conclusion have the same.
+pub const SLOTS: usize = 16384;
 
 // ---- keys
-// The slot of a key: by its name's number and its sign.
-fn slot_of(nodes: &[u32], key: u32) -> usize
-    requires { ⌜ Node (now nodes) (variableOf key) ⌝ }
-    ensures { λ r. ⌜ r ≡ slotAt (now (nodes .entry)) key ⌝ }
-{
-    let kind = nodes::kind_of(nodes, nodes::wide(matching::variable_of(key)));
-    if kind < NAME_KIND {
-        return NO_SLOT;
-    }
-    let number = (kind - NAME_KIND) % SLOT_NAMES;
-    nodes::wide(2 * number + key % 2)
-}
-
 // Whether two keys are the same literal.
 fn same_literal(nodes: &[u32], key: u32, other: u32) -> bool
     requires { ⌜ Node (now nodes) (variableOf key) ⌝ }
@@ -66,28 +60,15 @@ fn same_literal(nodes: &[u32], key: u32, other: u32) -> bool
     )
 }
 
-// Whether a key over a name and another are the same literal: by their kinds, without following children.
-fn same_name(nodes: &[u32], key: u32, other: u32) -> bool
-    requires { ⌜ Node (now nodes) (variableOf key) × (slotAt (now nodes) key < noSlot) ⌝ }
-    requires { ⌜ Node (now nodes) (variableOf other) ⌝ }
-    ensures { λ r. ⌜ SameIs (now (nodes .entry)) key other r ⌝ }
-{
-    if key % 2 != other % 2 {
-        return false;
-    }
-    let kind = nodes::kind_of(nodes, nodes::wide(matching::variable_of(key)));
-    kind == nodes::kind_of(nodes, nodes::wide(matching::variable_of(other)))
-}
-
 // Where a key stands, by walking; the count where it is none.
-fn walk(nodes: &[u32], keys: &[u32], n: usize, key: u32) -> usize
-    requires { ⌜ Node (now nodes) (variableOf key) ⌝ }
-    requires { ⌜ Variables (now nodes) (now keys) n × (n ≤ length (now keys)) ⌝ }
-    ensures { λ r. ⌜ PlaceIs (now (nodes .entry)) (now (keys .entry)) n key r × (r ≤ n) ⌝ }
+fn walk(nodes: &[u32], keys: &[u32], at: usize, n: usize, key: u32) -> usize
+    requires { ⌜ Variable (now nodes) (variableOf key) ⌝ }
+    requires { ⌜ Literals (now nodes) (placed at (now keys)) n × (at + n ≤ length (now keys)) × (at ≤ maxPlace) × (n ≤ maxEntries) ⌝ }
+    ensures { λ r. ⌜ PlaceIs (now (nodes .entry)) (placed at (now (keys .entry))) n key r × (r ≤ n) ⌝ }
 {
     let mut i: usize = 0;
     while i < n {
-        if same_literal(nodes, key, keys[i]) {
+        if same_literal(nodes, key, keys[at + i]) {
             return i;
         }
         i += 1;
@@ -95,85 +76,70 @@ fn walk(nodes: &[u32], keys: &[u32], n: usize, key: u32) -> usize
     i
 }
 
-// Where the first key with a slot stands; the count where none has it.
-fn first_at(nodes: &[u32], keys: &[u32], slots: &[u16], n: usize, slot: usize) -> usize
-    requires { ⌜ Keyed (now nodes) (now keys) (now slots) n × (slot ≤ noSlot) ⌝ }
-    ensures { λ r. ⌜ FirstIs (now (nodes .entry)) (now (keys .entry)) (now (slots .entry)) n slot r ⌝ }
+// Where the slots of a place begin: the first premise has its own, the second the conclusion's, which is read behind it.
+fn slots_of(at: usize) -> usize
+    ensures { λ r. ⌜ (r ≡ slotsOf at) × (r ≤ keyRoom) ⌝ }
 {
-    let place = nodes::wide_short(slots[slot]);
+    if at == LEFT {
+        return 0;
+    }
+    KEYS
+}
+
+// The slot of a key of the sum at a place.
+fn slot_of(at: usize, key: u32) -> usize
+    requires { ⌜ key < keyRoom ⌝ }
+    ensures { λ r. ⌜ (r ≡ slotsOf at + key) × (r < 2 * keyRoom) ⌝ }
+{
+    slots_of(at) + nodes::wide(key)
+}
+
+// Where a key stands: of a name at once, of any other term by walking; the count where it is none.
+pub fn find(nodes: &[u32], keys: &[u32], slots: &[u16], at: usize, n: usize, key: u32) -> usize
+    requires { ⌜ Variable (now nodes) (variableOf key) ⌝ }
+    requires { ⌜ Keyed (now nodes) at (now keys) (now slots) n ⌝ }
+    ensures { λ r. ⌜ FindIs (now (nodes .entry)) (placed at (now (keys .entry))) n key r ⌝ }
+{
+    if nodes::kind_of(nodes, nodes::wide(matching::variable_of(key))) < NAME_KIND {
+        return walk(nodes, keys, at, n, key);
+    }
+    let place = nodes::wide_short(slots[slot_of(at, key)]);
     if place < n {
-        if slot_of(nodes, keys[place]) == slot {
+        if keys[at + place] == key {
             return place;
         }
     }
     n
 }
 
-// Where a key stands, at once for a name whose slot is its own; the count where it is none.
-pub fn find(nodes: &[u32], keys: &[u32], slots: &[u16], n: usize, key: u32) -> usize
-    requires { ⌜ Node (now nodes) (variableOf key) ⌝ }
-    requires { ⌜ Keyed (now nodes) (now keys) (now slots) n ⌝ }
-    ensures { λ r. ⌜ FindIs (now (nodes .entry)) (now (keys .entry)) n key r ⌝ }
-{
-    let slot = slot_of(nodes, key);
-    if slot < NO_SLOT {
-        let place = nodes::wide_short(slots[slot]);
-        if place >= n {
-            return n;
-        }
-        let same = same_name(nodes, key, keys[place]);
-        if same {
-            return place;
-        }
-        if slot_of(nodes, keys[place]) != slot {
-            return n;
-        }
-    }
-    walk(nodes, keys, n, key)
-}
-
-// The slot that a new key takes: its own where no key has it.
-fn free_slot(nodes: &[u32], keys: &[u32], slots: &[u16], n: usize, key: u32) -> usize
-    requires { ⌜ Node (now nodes) (variableOf key) ⌝ }
-    requires { ⌜ Keyed (now nodes) (now keys) (now slots) n ⌝ }
-    ensures { λ r. ⌜ FreeIs (now (nodes .entry)) (now (keys .entry)) (now (slots .entry)) n key r ⌝ }
-{
-    let slot = slot_of(nodes, key);
-    if first_at(nodes, keys, slots, n, slot) < n {
-        NO_SLOT
-    } else {
-        slot
-    }
-}
-
-// Adds c to coefficient i.
-fn add_to(coeffs: &mut [i64], i: usize, c: i64)
-    requires { ⌜ i < length (now coeffs) ⌝ }
-    requires { ⌜ Within maxCoefficient (getD (now coeffs) i (pos 0)) ⌝ }
+// Adds c to coefficient i of a place.
+fn add_to(coeffs: &mut [i64], at: usize, i: usize, c: i64)
+    requires { ⌜ (at + maxEntries ≤ length (now coeffs)) × (at ≤ maxPlace) × (i < maxEntries) ⌝ }
+    requires { ⌜ Within maxCoefficient (getD (placed at (now coeffs)) i (pos 0)) ⌝ }
     requires { ⌜ Within maxCoefficient c ⌝ }
-    ensures { λ _. ⌜ Put1 (pos 0) (now (coeffs .entry)) i (getD (now (coeffs .entry)) i (pos 0) +ℤ c) (now (coeffs .exit)) ⌝ }
+    ensures { λ _. ⌜ Put1 (pos 0) (placed at (now (coeffs .entry))) i (getD (placed at (now (coeffs .entry))) i (pos 0) +ℤ c) (placed at (now (coeffs .exit))) × Others at (now (coeffs .entry)) (now (coeffs .exit)) ⌝ }
 {
-    let sum = integer::add(coeffs[i], c);
-    coeffs[i] = sum;
+    let sum = integer::add(coeffs[at + i], c);
+    coeffs[at + i] = sum;
 }
 
-// One entry more, and its place in a slot.
+// One entry more, and its place in its key's slot.
 fn append(
     coeffs: &mut [i64],
     keys: &mut [u32],
     slots: &mut [u16],
+    at: usize,
     n: usize,
-    slot: usize,
     key: u32,
     c: i64,
 ) -> usize
-    requires { ⌜ Room (now coeffs) (now keys) (now slots) ⌝ }
-    requires { ⌜ (n < maxEntries) × (slot ≤ noSlot) ⌝ }
-    ensures { λ r. ⌜ Appended (now (coeffs .entry)) (now (keys .entry)) (now (slots .entry)) n slot key c (now (coeffs .exit)) (now (keys .exit)) (now (slots .exit)) r ⌝ }
+    requires { ⌜ Room at (now coeffs) (now keys) (now slots) ⌝ }
+    requires { ⌜ (n < maxEntries) × (key < keyRoom) ⌝ }
+    ensures { λ r. ⌜ AppendedAt at (now (coeffs .entry)) (now (keys .entry)) (now (slots .entry)) n key c (now (coeffs .exit)) (now (keys .exit)) (now (slots .exit)) r ⌝ }
 {
-    coeffs[n] = c;
-    keys[n] = key;
-    slots[slot] = n as u16;
+    coeffs[at + n] = c;
+    keys[at + n] = key;
+    slots[slot_of(at, key)] = n as u16;
     n + 1
 }
 
@@ -183,24 +149,24 @@ pub fn put(
     coeffs: &mut [i64],
     keys: &mut [u32],
     slots: &mut [u16],
+    at: usize,
     n: usize,
     key: u32,
     c: i64,
 ) -> usize
-    requires { ⌜ Node (now nodes) (variableOf key) ⌝ }
-    requires { ⌜ Room (now coeffs) (now keys) (now slots) ⌝ }
-    requires { ⌜ Fine (now nodes) (now keys) (now slots) n × (n < maxEntries) ⌝ }
-    requires { ⌜ Bounded maxCoefficient (now coeffs) n ⌝ }
+    requires { ⌜ Variable (now nodes) (variableOf key) ⌝ }
+    requires { ⌜ Room at (now coeffs) (now keys) (now slots) ⌝ }
+    requires { ⌜ Fine (now nodes) (placed at (now keys)) (slotted at (now slots)) n × (n < maxEntries) ⌝ }
+    requires { ⌜ Bounded maxCoefficient (placed at (now coeffs)) n ⌝ }
     requires { ⌜ Within maxCoefficient c ⌝ }
-    ensures { λ r. ⌜ PutIs (now (nodes .entry)) (now (coeffs .entry)) (now (keys .entry)) n key c (now (coeffs .exit)) (now (keys .exit)) (now (slots .exit)) r ⌝ }
+    ensures { λ r. ⌜ PutAt (now (nodes .entry)) at (now (coeffs .entry)) (now (keys .entry)) (now (slots .entry)) n key c (now (coeffs .exit)) (now (keys .exit)) (now (slots .exit)) r ⌝ }
 {
-    let i = find(nodes, keys, slots, n, key);
+    let i = find(nodes, keys, slots, at, n, key);
     if i < n {
-        add_to(coeffs, i, c);
+        add_to(coeffs, at, i, c);
         return n;
     }
-    let slot = free_slot(nodes, keys, slots, n, key);
-    append(coeffs, keys, slots, n, slot, key, c)
+    append(coeffs, keys, slots, at, n, key, c)
 }
 
 // ---- reading
@@ -219,7 +185,7 @@ fn read_summand(nodes: &[u32], t: u32) -> Summand
         Pair::Not => Summand::Refused(NEITHER_PLAIN_NOR_NEGATED),
         Pair::Of(c, v) => match matching::as_constant(nodes, c) {
             Constant::Not => Summand::Refused(EXPECTED_ANY_INTEGER),
-            Constant::Is(z) => Summand::Is(matching::literal_of(nodes, v), z),
+            Constant::Is(z) => Summand::Is(matching::literal_key(nodes, v), z),
         },
     }
 }
@@ -238,10 +204,11 @@ fn read_summands(
     coeffs: &mut [i64],
     keys: &mut [u32],
     slots: &mut [u16],
+    at: usize,
 ) -> Read
     requires { ⌜ Nodes (now nodes) (now ts) top × (length (now ts) ≤ maxSummands) ⌝ }
-    requires { ⌜ Room (now coeffs) (now keys) (now slots) ⌝ }
-    ensures { λ r. ⌜ ReadIs (now (nodes .entry)) top (λ (s : List ℕ). summands (listed (map (decode s (now (nodes .entry))) (now (ts .entry)))) []) (r .number) (now (coeffs .exit)) (now (keys .exit)) (now (slots .exit)) (r .count) ⌝ }
+    requires { ⌜ Room at (now coeffs) (now keys) (now slots) ⌝ }
+    ensures { λ r. ⌜ ReadAt (now (nodes .entry)) top (λ (s : List ℕ). summands (listed (map (decode s (now (nodes .entry))) (now (ts .entry)))) []) at (now (coeffs .entry)) (now (keys .entry)) (now (slots .entry)) (now (coeffs .exit)) (now (keys .exit)) (now (slots .exit)) r ⌝ }
 {
     let mut n: usize = 0;
     let mut i: usize = 0;
@@ -251,7 +218,7 @@ fn read_summands(
                 return Read { number, count: n };
             }
             Summand::Is(key, c) => {
-                n = put(nodes, coeffs, keys, slots, n, key, c);
+                n = put(nodes, coeffs, keys, slots, at, n, key, c);
             }
         }
         i += 1;
@@ -281,10 +248,11 @@ pub fn get_pb_hashmap(
     coeffs: &mut [i64],
     keys: &mut [u32],
     slots: &mut [u16],
+    at: usize,
 ) -> Read
     requires { ⌜ Node (now nodes) i ⌝ }
-    requires { ⌜ Room (now coeffs) (now keys) (now slots) ⌝ }
-    ensures { λ r. ⌜ ReadIs (now (nodes .entry)) (suc i) (λ (s : List ℕ). pbSum (decode s (now (nodes .entry)) i)) (r .number) (now (coeffs .exit)) (now (keys .exit)) (now (slots .exit)) (r .count) ⌝ }
+    requires { ⌜ Room at (now coeffs) (now keys) (now slots) ⌝ }
+    ensures { λ r. ⌜ ReadAt (now (nodes .entry)) (suc i) (λ (s : List ℕ). pbSum (decode s (now (nodes .entry)) i)) at (now (coeffs .entry)) (now (keys .entry)) (now (slots .entry)) (now (coeffs .exit)) (now (keys .exit)) (now (slots .exit)) r ⌝ }
 {
     let one = [i; 1];
     let pbsum = matching::split_summation(nodes, &one, i);
@@ -309,7 +277,9 @@ pub fn get_pb_hashmap(
                 count: 0,
             }
         }
-        Constant::Not => { read_summands(nodes, pbsum, nodes::wide(i) + 1, coeffs, keys, slots) }
+        Constant::Not => {
+            read_summands(nodes, pbsum, nodes::wide(i) + 1, coeffs, keys, slots, at)
+        }
     }
 }
 
@@ -327,10 +297,11 @@ pub fn unwrap_pseudoboolean_inequality(
     coeffs: &mut [i64],
     keys: &mut [u32],
     slots: &mut [u16],
+    at: usize,
 ) -> Inequality
     requires { ⌜ Node (now nodes) i ⌝ }
-    requires { ⌜ Room (now coeffs) (now keys) (now slots) ⌝ }
-    ensures { λ r. ⌜ InequalityIs (now (nodes .entry)) i (r .number) (r .constant) (now (coeffs .exit)) (now (keys .exit)) (now (slots .exit)) (r .count) ⌝ }
+    requires { ⌜ Room at (now coeffs) (now keys) (now slots) ⌝ }
+    ensures { λ r. ⌜ InequalityAt (now (nodes .entry)) i at (now (coeffs .entry)) (now (keys .entry)) (now (slots .entry)) (now (coeffs .exit)) (now (keys .exit)) (now (slots .exit)) r ⌝ }
 {
     match matching::binary(nodes, GE, i) {
         Pair::Not => Inequality {
@@ -345,7 +316,7 @@ pub fn unwrap_pseudoboolean_inequality(
                 count: 0,
             },
             Constant::Is(z) => {
-                let read = get_pb_hashmap(nodes, pbsum, coeffs, keys, slots);
+                let read = get_pb_hashmap(nodes, pbsum, coeffs, keys, slots, at);
                 Inequality {
                     number: read.number,
                     constant: z,
@@ -357,25 +328,27 @@ pub fn unwrap_pseudoboolean_inequality(
 }
 
 // ---- keys of two sums
-// Whether entry i has coefficient 0, or its key is one of the others.
+// Whether entry i has coefficient 0, or its key is one of the sum at another place; its coefficient stands at the place `from`, its key at `at`.
 fn key_kept(
     nodes: &[u32],
     coeffs: &[i64],
     keys: &[u32],
+    slots: &[u16],
+    from: usize,
+    at: usize,
     i: usize,
-    keys2: &[u32],
-    slots2: &[u16],
+    at2: usize,
     m: usize,
 ) -> bool
-    requires { ⌜ (i < length (now coeffs)) × (i < length (now keys)) × Node (now nodes) (variableOf (getD (now keys) i 0)) ⌝ }
-    requires { ⌜ Keyed (now nodes) (now keys2) (now slots2) m ⌝ }
-    ensures { λ r. ⌜ KeptIs (now (nodes .entry)) (now (coeffs .entry)) (now (keys .entry)) i (now (keys2 .entry)) m r ⌝ }
+    requires { ⌜ (i < maxEntries) × (from ≤ maxPlace) × (at ≤ maxPlace) × (from + i < length (now coeffs)) × (at + i < length (now keys)) × Variable (now nodes) (variableOf (getD (placed at (now keys)) i 0)) ⌝ }
+    requires { ⌜ Keyed (now nodes) at2 (now keys) (now slots) m ⌝ }
+    ensures { λ r. ⌜ KeptIs (now (nodes .entry)) (placed from (now (coeffs .entry))) (placed at (now (keys .entry))) i (placed at2 (now (keys .entry))) m r ⌝ }
 {
     // Zero coefficient is ignored.
-    if integer::is_zero(coeffs[i]) {
+    if integer::is_zero(coeffs[from + i]) {
         return true;
     }
-    find(nodes, keys2, slots2, m, keys[i]) < m
+    find(nodes, keys, slots, at2, m, keys[at + i]) < m
 }
 
 // Whether every key with a nonzero coefficient is one of the others: a ⊆ b.
@@ -383,18 +356,20 @@ pub fn assert_pbsum_subset_keys(
     nodes: &[u32],
     coeffs: &[i64],
     keys: &[u32],
+    slots: &[u16],
+    from: usize,
+    at: usize,
     n: usize,
-    keys2: &[u32],
-    slots2: &[u16],
+    at2: usize,
     m: usize,
 ) -> bool
-    requires { ⌜ Listed (now nodes) (now coeffs) (now keys) n ⌝ }
-    requires { ⌜ Keyed (now nodes) (now keys2) (now slots2) m ⌝ }
-    ensures { λ r. ⌜ SubsetIs (now (nodes .entry)) (now (coeffs .entry)) (now (keys .entry)) n (now (keys2 .entry)) m r ⌝ }
+    requires { ⌜ Listed (now nodes) from at (now coeffs) (now keys) n ⌝ }
+    requires { ⌜ Keyed (now nodes) at2 (now keys) (now slots) m ⌝ }
+    ensures { λ r. ⌜ SubsetIs (now (nodes .entry)) (placed from (now (coeffs .entry))) (placed at (now (keys .entry))) n (placed at2 (now (keys .entry))) m r ⌝ }
 {
     let mut i: usize = 0;
     while i < n {
-        if !key_kept(nodes, coeffs, keys, i, keys2, slots2, m) {
+        if !key_kept(nodes, coeffs, keys, slots, from, at, i, at2, m) {
             return false;
         }
         i += 1;
@@ -402,52 +377,54 @@ pub fn assert_pbsum_subset_keys(
     true
 }
 
-// Whether two sums have the same keys, those with coefficient 0 apart.
+// Whether two sums have the same keys, those with coefficient 0 apart. The first one's coefficients stand at the place `from`, its keys at `at`.
 pub fn assert_pbsum_same_keys(
     nodes: &[u32],
     coeffs: &[i64],
     keys: &[u32],
     slots: &[u16],
+    from: usize,
+    at: usize,
     n: usize,
-    coeffs2: &[i64],
-    keys2: &[u32],
-    slots2: &[u16],
+    at2: usize,
     m: usize,
 ) -> bool
-    requires { ⌜ Keyed (now nodes) (now keys) (now slots) n × (n ≤ length (now coeffs)) ⌝ }
-    requires { ⌜ Keyed (now nodes) (now keys2) (now slots2) m × (m ≤ length (now coeffs2)) ⌝ }
-    ensures { λ r. ⌜ SameKeysIs (now (nodes .entry)) (now (coeffs .entry)) (now (keys .entry)) n (now (coeffs2 .entry)) (now (keys2 .entry)) m r ⌝ }
+    requires { ⌜ Keyed (now nodes) at (now keys) (now slots) n × (from + n ≤ length (now coeffs)) × (from ≤ maxPlace) ⌝ }
+    requires { ⌜ Keyed (now nodes) at2 (now keys) (now slots) m × (at2 + m ≤ length (now coeffs)) ⌝ }
+    ensures { λ r. ⌜ SameKeysIs (now (nodes .entry)) (placed from (now (coeffs .entry))) (placed at (now (keys .entry))) n (placed at2 (now (coeffs .entry))) (placed at2 (now (keys .entry))) m r ⌝ }
 {
     // All keys in A are in B
-    if !assert_pbsum_subset_keys(nodes, coeffs, keys, n, keys2, slots2, m) {
+    if !assert_pbsum_subset_keys(nodes, coeffs, keys, slots, from, at, n, at2, m) {
         return false;
     }
 
     // All keys in B are in A
-    assert_pbsum_subset_keys(nodes, coeffs2, keys2, m, keys, slots, n)
+    assert_pbsum_subset_keys(nodes, coeffs, keys, slots, at2, at2, m, at, n)
 }
 
 // ---- adding and reducing
-// Adds the m entries of another sum to the n of this one.
+// Adds the m entries at another place to the n of this one.
 pub fn add_pbsums(
     nodes: &[u32],
     coeffs: &mut [i64],
     keys: &mut [u32],
     slots: &mut [u16],
+    at: usize,
     n: usize,
-    coeffs2: &[i64],
-    keys2: &[u32],
+    at2: usize,
     m: usize,
 ) -> usize
-    requires { ⌜ Room (now coeffs) (now keys) (now slots) ⌝ }
-    requires { ⌜ Fine (now nodes) (now keys) (now slots) n × (n ≤ maxSummands) × Bounded maxTotal (now coeffs) n ⌝ }
-    requires { ⌜ Listed (now nodes) (now coeffs2) (now keys2) m × (m ≤ maxSummands) × Bounded maxTotal (now coeffs2) m ⌝ }
-    ensures { λ r. ⌜ AddIs (now (nodes .entry)) (now (coeffs .entry)) (now (keys .entry)) n (now (coeffs2 .entry)) (now (keys2 .entry)) m (now (coeffs .exit)) (now (keys .exit)) (now (slots .exit)) r ⌝ }
+    requires { ⌜ Room at (now coeffs) (now keys) (now slots) × Apart at at2 ⌝ }
+    requires { ⌜ Fine (now nodes) (placed at (now keys)) (slotted at (now slots)) n × (n ≤ maxSummands) × Bounded maxTotal (placed at (now coeffs)) n ⌝ }
+    requires { ⌜ Listed (now nodes) at2 at2 (now coeffs) (now keys) m × (m ≤ maxSummands) × Bounded maxTotal (placed at2 (now coeffs)) m ⌝ }
+    ensures { λ r. ⌜ AddAt (now (nodes .entry)) at (now (coeffs .entry)) (now (keys .entry)) (now (slots .entry)) n at2 m (now (coeffs .exit)) (now (keys .exit)) (now (slots .exit)) r ⌝ }
 {
     let mut k = n;
     let mut i: usize = 0;
     while i < m {
-        k = put(nodes, coeffs, keys, slots, k, keys2[i], coeffs2[i]);
+        let key = keys[at2 + i];
+        let c = coeffs[at2 + i];
+        k = put(nodes, coeffs, keys, slots, at, k, key, c);
         i += 1;
     }
     k
@@ -478,27 +455,28 @@ fn cancel(
     coeffs: &[i64],
     keys: &[u32],
     slots: &[u16],
+    at: usize,
     n: usize,
     i: usize,
 ) -> Cancelled
-    requires { ⌜ Keyed (now nodes) (now keys) (now slots) n × (n ≤ length (now coeffs)) × (i < n) ⌝ }
-    requires { ⌜ Bounded maxAdded (now coeffs) n ⌝ }
-    ensures { λ r. ⌜ CancelIs (now (nodes .entry)) (now (coeffs .entry)) (now (keys .entry)) n i (r .kept) (r .slack) ⌝ }
+    requires { ⌜ Keyed (now nodes) at (now keys) (now slots) n × (at + n ≤ length (now coeffs)) × (i < n) ⌝ }
+    requires { ⌜ Bounded maxAdded (placed at (now coeffs)) n ⌝ }
+    ensures { λ r. ⌜ CancelIs (now (nodes .entry)) (placed at (now (coeffs .entry))) (placed at (now (keys .entry))) n i (r .kept) (r .slack) ⌝ }
 {
-    let j = find(nodes, keys, slots, n, matching::opposite(keys[i]));
+    let key = keys[at + i];
+    let a = coeffs[at + i];
+    let j = find(nodes, keys, slots, at, n, matching::opposite(key));
     if j >= n {
-        return Cancelled {
-            kept: coeffs[i],
-            slack: 0,
-        };
+        return Cancelled { kept: a, slack: 0 };
     }
-    let kept = keep_of(coeffs[i], coeffs[j]);
-    if matching::negated_of(keys[i]) {
+    let b = coeffs[at + j];
+    let kept = keep_of(a, b);
+    if matching::negated_of(key) {
         return Cancelled { kept, slack: 0 };
     }
     Cancelled {
         kept,
-        slack: integer::smaller(coeffs[i], coeffs[j]),
+        slack: integer::smaller(a, b),
     }
 }
 
@@ -507,26 +485,27 @@ pub struct Slack {
     pub slack: i64,
 }
 
-// Cancels out opposite coefficients: every new coefficient, into `reduced`, and the slack from the sum as it was.
+// Cancels out opposite coefficients: every new coefficient, to the place `into`, and the slack from the sum as it was.
 pub fn reduce_pbsum(
     nodes: &[u32],
-    coeffs: &[i64],
+    coeffs: &mut [i64],
     keys: &[u32],
     slots: &[u16],
+    at: usize,
     n: usize,
-    reduced: &mut [i64],
+    into: usize,
 ) -> Slack
-    requires { ⌜ Keyed (now nodes) (now keys) (now slots) n × (n ≤ length (now coeffs)) × Bounded maxAdded (now coeffs) n ⌝ }
-    requires { ⌜ n ≤ length (now reduced) ⌝ }
-    ensures { λ r. ⌜ ReduceIs (now (nodes .entry)) (now (coeffs .entry)) (now (keys .entry)) n (now (reduced .exit)) (r .slack) ⌝ }
+    requires { ⌜ Keyed (now nodes) at (now keys) (now slots) n × (at + n ≤ length (now coeffs)) × Bounded maxAdded (placed at (now coeffs)) n ⌝ }
+    requires { ⌜ (into + maxEntries ≤ length (now coeffs)) × (into ≤ maxPlace) × Apart into at ⌝ }
+    ensures { λ r. ⌜ ReduceIs (now (nodes .entry)) (placed at (now (coeffs .entry))) (placed at (now (keys .entry))) n (placed into (now (coeffs .exit))) (r .slack) × Others into (now (coeffs .entry)) (now (coeffs .exit)) ⌝ }
 {
     let mut total = Slack { slack: 0 };
     let mut i: usize = 0;
     while i < n {
-        let one = cancel(nodes, coeffs, keys, slots, n, i);
+        let one = cancel(nodes, coeffs, keys, slots, at, n, i);
         let kept = one.kept;
         let slack = integer::add(total.slack, one.slack);
-        reduced[i] = kept;
+        coeffs[into + i] = kept;
         total = Slack { slack };
         i += 1;
     }

@@ -1,7 +1,7 @@
 -- The local arrays have the room of every sum.
 use borrow.Author.Needs.{needs}
 use lib.IntN.{pos}
-use Rattle.checker.proofs.Answering.{room-of, entries-of}
+use Rattle.checker.proofs.Answering.{rooms-of}
 use Rattle.checker.proofs.answer_commands.Statement.{statement}
 use Rattle.checker.proofs.answer_commands.Tie as tie
 
@@ -14,29 +14,8 @@ slice-aggregate-answer-all-2 c = search needs
 slice-aggregate-answer-all-3 : tie.Need-slice-aggregate-answer-all-3
 slice-aggregate-answer-all-3 c = search needs
 
-slice-aggregate-answer-all-4 : tie.Need-slice-aggregate-answer-all-4
-slice-aggregate-answer-all-4 c = search needs
-
-slice-aggregate-answer-all-5 : tie.Need-slice-aggregate-answer-all-5
-slice-aggregate-answer-all-5 c = search needs
-
-slice-aggregate-answer-all-6 : tie.Need-slice-aggregate-answer-all-6
-slice-aggregate-answer-all-6 c = search needs
-
-slice-aggregate-answer-all-7 : tie.Need-slice-aggregate-answer-all-7
-slice-aggregate-answer-all-7 c = search needs
-
-slice-aggregate-answer-all-8 : tie.Need-slice-aggregate-answer-all-8
-slice-aggregate-answer-all-8 c = search needs
-
-slice-aggregate-answer-all-9 : tie.Need-slice-aggregate-answer-all-9
-slice-aggregate-answer-all-9 c = search needs
-
-slice-aggregate-answer-all-10 : tie.Need-slice-aggregate-answer-all-10
-slice-aggregate-answer-all-10 c = search needs
-
 answer-all-requires : tie.Need-answer-all-requires
-answer-all-requires c κs = ((c .before .before .before .before .before .before .before .before .before .before .before .before .before .before .before .before .pre) .0, ((c .before .before .before .before .before .before .before .before .before .before .before .before .before .before .before .before .pre) .1, ((room-of (pos 0) 0 0, entries-of (pos 0)), (room-of (pos 0) 0 0, room-of (pos 0) 0 0))))
+answer-all-requires c κs = ((c .before .before .before .before .before .before .before .before .before .pre) .0, ((c .before .before .before .before .before .before .before .before .before .pre) .1, rooms-of (pos 0) 0 0))
 
 same-length : tie.Need-same-length
 same-length c = search needs
@@ -54,13 +33,6 @@ answer-commands-spec =
     slice-aggregate-answer-all
     slice-aggregate-answer-all-2
     slice-aggregate-answer-all-3
-    slice-aggregate-answer-all-4
-    slice-aggregate-answer-all-5
-    slice-aggregate-answer-all-6
-    slice-aggregate-answer-all-7
-    slice-aggregate-answer-all-8
-    slice-aggregate-answer-all-9
-    slice-aggregate-answer-all-10
     answer-all-requires
     same-length
     same-length-2

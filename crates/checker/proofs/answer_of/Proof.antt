@@ -9,10 +9,10 @@ word-of-requires : tie.Need-word-of-requires
 word-of-requires c κs = search needs
 
 returns : tie.Need-returns
-returns c = λ s f. by-assumption f ((c .before .before .before .before .before .before .before .before .before .before .args) .k) (omega (arith, (c .before .word-of) .ensures, (c .if1) .taken))
+returns c = λ s f. by-assumption f ((c .before .before .before .before .before .before .args) .k) (omega (arith, (c .before .word-of) .ensures, (c .if1) .taken))
 
 check-step-requires : tie.Need-check-step-requires
-check-step-requires c κs = (given-of ((c .before .before .before .before .before .before .before .before .before .before .before .before .before .before .before .before .before .before .before .before .pre) .0 .0 .1) ((c .before .before .before .before .before .before .before .before .before .before .before .before .before .before .before .before .before .before .before .before .args) .k) ((c .before .before .before .before .before .before .before .before .before .before .before .before .before .before .before .before .before .before .before .before .pre) .0 .1) (omega (arith, (c .before .before .before .before .before .before .before .before .before .before .before .word-of) .ensures, (c .before .before .before .before .before .before .before .before .before .before .if1) .left)), (c .before .before .before .before .before .before .before .before .before .before .before .before .before .before .before .before .before .before .before .before .pre) .1)
+check-step-requires c κs = (given-of ((c .before .before .before .before .before .before .before .before .before .pre) .0 .0 .1) ((c .before .before .before .before .before .before .before .before .before .args) .k) ((c .before .before .before .before .before .before .before .before .before .pre) .0 .1) (omega (arith, (c .before .before .before .before .word-of) .ensures, (c .before .before .before .if1) .left)), (c .before .before .before .before .before .before .before .before .before .pre) .1)
 
 same-length : tie.Need-same-length
 same-length c = search needs
@@ -23,29 +23,8 @@ same-length-2 c = search needs
 same-length-3 : tie.Need-same-length-3
 same-length-3 c = search needs
 
-same-length-4 : tie.Need-same-length-4
-same-length-4 c = search needs
-
-same-length-5 : tie.Need-same-length-5
-same-length-5 c = search needs
-
-same-length-6 : tie.Need-same-length-6
-same-length-6 c = search needs
-
-same-length-7 : tie.Need-same-length-7
-same-length-7 c = search needs
-
-same-length-8 : tie.Need-same-length-8
-same-length-8 c = search needs
-
-same-length-9 : tie.Need-same-length-9
-same-length-9 c = search needs
-
-same-length-10 : tie.Need-same-length-10
-same-length-10 c = search needs
-
 returns-2 : tie.Need-returns-2
-returns-2 c = λ s f. by-step f ((c .before .before .before .before .before .before .before .before .before .before .before .before .before .before .before .before .before .before .before .before .before .before .before .before .before .before .before .before .before .before .before .before .before .before .before .before .before .args) .k) ((c .before .before .before .before .before .before .before .before .before .before .before .before .before .before .before .before .check-step) .result) ((c .before .before .before .before .before .before .before .before .before .before .before .before .before .before .before .before .before .before .before .before .before .before .before .before .before .before .before .before .before .before .before .before .before .before .before .before .before .pre) .0 .1) (omega (arith, (c .before .before .before .before .before .before .before .before .before .before .before .before .before .before .before .before .before .before .before .before .before .before .before .before .before .before .before .before .word-of) .ensures, (c .before .before .before .before .before .before .before .before .before .before .before .before .before .before .before .before .before .before .before .before .before .before .before .before .before .before .before .if1) .left)) ((c .before .before .before .before .before .before .before .before .before .before .before .before .before .before .before .before .check-step) .ensures)
+returns-2 c = λ s f. by-step f ((c .before .before .before .before .before .before .before .before .before .before .before .before .before .before .before .args) .k) ((c .before .before .before .before .before .check-step) .result) ((c .before .before .before .before .before .before .before .before .before .before .before .before .before .before .before .pre) .0 .1) (omega (arith, (c .before .before .before .before .before .before .before .before .before .before .word-of) .ensures, (c .before .before .before .before .before .before .before .before .before .if1) .left)) ((c .before .before .before .before .before .check-step) .ensures)
 
 pub answer-of-spec : {M : Type 1} → statement M
 answer-of-spec =
@@ -57,11 +36,4 @@ answer-of-spec =
     same-length
     same-length-2
     same-length-3
-    same-length-4
-    same-length-5
-    same-length-6
-    same-length-7
-    same-length-8
-    same-length-9
-    same-length-10
     returns-2)

@@ -1,6 +1,4 @@
 -- The loop's invariant: the answer from entry i on is that for the whole.
-use borrow.Author.Needs.{needs}
--- The loop's invariant: the answer from entry i on is that for the whole.
 use mathlib.Core.Path.{subst}
 use Prim.Native.Nat.{_-_}
 use native.Mathlib.Omega.{arith}
@@ -9,37 +7,45 @@ use lib.ListN.{getD}
 use lib.IntN.{pos}
 use Rattle.integer.proofs.Signed.{back}
 use Rattle.rules.specs.Checked.{EntryIs}
+use Rattle.matching.specs.Places.{placed}
+use Rattle.sums.specs.Places.{leftAt, rightAt, conclusionAt}
+use Rattle.matching.proofs.Places.{key-at, coefficient-at}
 use Rattle.rules.proofs.Adding.{Are, are-start, are-more, are-stop, are-end}
 use Rattle.rules.proofs.coefficients_are.Statement.{statement}
 use Rattle.rules.proofs.coefficients_are.Tie as tie
 
 abbrev Inv-loop : tie.InvT-loop
-Inv-loop nodes coeffs keys slots n coeffs2 keys2 m i₀ i = Are nodes coeffs keys n coeffs2 keys2 m i
+Inv-loop nodes coeffs keys slots n m i₀ i = Are nodes (placed rightAt coeffs) (placed leftAt keys) n (placed conclusionAt coeffs) (placed conclusionAt keys) m i
 
 abbrev μ-loop : tie.MeasureT-loop
-μ-loop nodes coeffs keys slots n coeffs2 keys2 m i₀ i = m - i
+μ-loop nodes coeffs keys slots n m i₀ i = m - i
 
 loop-holds : tie.Need-loop-holds Inv-loop μ-loop
-loop-holds c = are-start ((c .before .before .before .before .args) .nodes .now) ((c .before .before .before .before .args) .coeffs .now) ((c .before .before .before .before .args) .keys .now) ((c .before .before .before .before .args) .n) ((c .before .before .before .before .args) .coeffs2 .now) ((c .before .before .before .before .args) .keys2 .now) ((c .before .before .before .before .args) .m) 0 (omega arith)
+loop-holds c = are-start ((c .before .before .before .args) .nodes .now) (placed rightAt ((c .before .before .before .args) .coeffs .now)) (placed leftAt ((c .before .before .before .args) .keys .now)) ((c .before .before .before .args) .n) (placed conclusionAt ((c .before .before .before .args) .coeffs .now)) (placed conclusionAt ((c .before .before .before .args) .keys .now)) ((c .before .before .before .args) .m) 0 (omega arith)
 
-mul-coefficient-is : tie.Need-mul-coefficient-is Inv-loop μ-loop
-mul-coefficient-is c = search needs
+add-c : tie.Need-add-c Inv-loop μ-loop
+add-c c = omega (arith, (c .before .before .before .before .before .pre) .1 .few, (c .before .before .before .before .before .pre) .1 .most)
 
-shared-slice-copy-out-coefficient-is :
-    tie.Need-shared-slice-copy-out-coefficient-is Inv-loop μ-loop
-shared-slice-copy-out-coefficient-is c = omega (arith, (c .before .before .before .before .before .before .pre) .1 .coefficients)
+mul-c : tie.Need-mul-c Inv-loop μ-loop
+mul-c c = omega (arith, (c .before .before .before .before .before .pre) .1 .few, (c .before .before .before .before .before .pre) .1 .most)
 
-mul-coefficient-is-2 : tie.Need-mul-coefficient-is-2 Inv-loop μ-loop
-mul-coefficient-is-2 c = search needs
+shared-slice-copy-out-c : tie.Need-shared-slice-copy-out-c Inv-loop μ-loop
+shared-slice-copy-out-c c = omega (arith, (c .before .before .before .before .before .pre) .1 .coefficients)
 
-shared-slice-read-coefficient-is : tie.Need-shared-slice-read-coefficient-is Inv-loop μ-loop
-shared-slice-read-coefficient-is c = omega (arith, (c .before .before .before .before .before .before .before .before .pre) .1 .keys)
+add-key : tie.Need-add-key Inv-loop μ-loop
+add-key c = omega (arith, (c .before .before .before .before .before .before .pre) .1 .few, (c .before .before .before .before .before .before .pre) .1 .most)
+
+mul-key : tie.Need-mul-key Inv-loop μ-loop
+mul-key c = omega (arith, (c .before .before .before .before .before .before .pre) .1 .few, (c .before .before .before .before .before .before .pre) .1 .most)
+
+shared-slice-read-key : tie.Need-shared-slice-read-key Inv-loop μ-loop
+shared-slice-read-key c = omega (arith, (c .before .before .before .before .before .before .before .pre) .1 .keys)
 
 coefficient-is-requires : tie.Need-coefficient-is-requires Inv-loop μ-loop
-coefficient-is-requires c κs = ((c .before .before .before .before .before .before .before .before .pre) .0, (c .before .before .before .before .before .before .before .before .pre) .1 .nodes ((c .before .before .before .loop) .i) (omega arith))
+coefficient-is-requires c κs = ((c .before .before .before .before .before .before .before .pre) .0, rw (key-at conclusionAt ((c .before .before .before .before .before .before .before .args) .keys .now) ((c .before .before .before .loop) .i) (omega (arith, (c .before .before .before .before .before .before .before .pre) .1 .most))) at ((c .before .before .before .before .before .before .before .pre) .1 .literals ((c .before .before .before .loop) .i) (omega arith)))
 
 returns : tie.Need-returns Inv-loop μ-loop
-returns c = are-stop ((c .before .before .before .before .before .before .before .before .before .before .args) .nodes .now) ((c .before .before .before .before .before .before .before .before .before .before .args) .coeffs .now) ((c .before .before .before .before .before .before .before .before .before .before .args) .keys .now) ((c .before .before .before .before .before .before .before .before .before .before .args) .n) ((c .before .before .before .before .before .before .before .before .before .before .args) .coeffs2 .now) ((c .before .before .before .before .before .before .before .before .before .before .args) .keys2 .now) ((c .before .before .before .before .before .before .before .before .before .before .args) .m) ((c .before .before .before .before .before .loop) .i) ((c .before .before .before .before .before .loop) .inv) (omega arith) (subst (EntryIs ((c .before .before .before .before .before .before .before .before .before .before .args) .nodes .now) ((c .before .before .before .before .before .before .before .before .before .before .args) .coeffs .now) ((c .before .before .before .before .before .before .before .before .before .before .args) .keys .now) ((c .before .before .before .before .before .before .before .before .before .before .args) .n) (getD ((c .before .before .before .before .before .before .before .before .before .before .args) .coeffs2 .now) ((c .before .before .before .before .before .loop) .i) (pos 0)) (getD ((c .before .before .before .before .before .before .before .before .before .before .args) .keys2 .now) ((c .before .before .before .before .before .loop) .i) 0)) (not-true _ ((c .if1) .taken)) (rw (back _ ((c .before .before .before .coefficient-is-arg) .given)) at ((c .before .coefficient-is) .ensures)))
+returns c = are-stop ((c .before .before .before .before .before .before .before .before .before .args) .nodes .now) (placed rightAt ((c .before .before .before .before .before .before .before .before .before .args) .coeffs .now)) (placed leftAt ((c .before .before .before .before .before .before .before .before .before .args) .keys .now)) ((c .before .before .before .before .before .before .before .before .before .args) .n) (placed conclusionAt ((c .before .before .before .before .before .before .before .before .before .args) .coeffs .now)) (placed conclusionAt ((c .before .before .before .before .before .before .before .before .before .args) .keys .now)) ((c .before .before .before .before .before .before .before .before .before .args) .m) ((c .before .before .before .before .before .loop) .i) ((c .before .before .before .before .before .loop) .inv) (omega arith) (subst (EntryIs ((c .before .before .before .before .before .before .before .before .before .args) .nodes .now) (placed rightAt ((c .before .before .before .before .before .before .before .before .before .args) .coeffs .now)) (placed leftAt ((c .before .before .before .before .before .before .before .before .before .args) .keys .now)) ((c .before .before .before .before .before .before .before .before .before .args) .n) (getD (placed conclusionAt ((c .before .before .before .before .before .before .before .before .before .args) .coeffs .now)) ((c .before .before .before .before .before .loop) .i) (pos 0)) (getD (placed conclusionAt ((c .before .before .before .before .before .before .before .before .before .args) .keys .now)) ((c .before .before .before .before .before .loop) .i) 0)) (not-true _ ((c .if1) .taken)) (rw (back _ ((c .before .before .before .c) .given), ← (coefficient-at conclusionAt ((c .before .before .before .before .before .before .before .before .before .args) .coeffs .now) ((c .before .before .before .before .before .loop) .i) (omega (arith, (c .before .before .before .before .before .before .before .before .before .pre) .1 .most))), ← (key-at conclusionAt ((c .before .before .before .before .before .before .before .before .before .args) .keys .now) ((c .before .before .before .before .before .loop) .i) (omega (arith, (c .before .before .before .before .before .before .before .before .before .pre) .1 .most)))) at ((c .before .coefficient-is) .ensures)))
 
 add-i : tie.Need-add-i Inv-loop μ-loop
 add-i c = omega arith
@@ -48,10 +54,10 @@ loop-less : tie.Need-loop-less Inv-loop μ-loop
 loop-less c = omega arith
 
 loop-again : tie.Need-loop-again Inv-loop μ-loop
-loop-again c = are-more ((c .before .before .before .before .before .before .before .before .before .before .args) .nodes .now) ((c .before .before .before .before .before .before .before .before .before .before .args) .coeffs .now) ((c .before .before .before .before .before .before .before .before .before .before .args) .keys .now) ((c .before .before .before .before .before .before .before .before .before .before .args) .n) ((c .before .before .before .before .before .before .before .before .before .before .args) .coeffs2 .now) ((c .before .before .before .before .before .before .before .before .before .before .args) .keys2 .now) ((c .before .before .before .before .before .before .before .before .before .before .args) .m) ((c .before .before .before .before .before .loop) .i) ((c .before .before .before .before .before .loop) .inv) (omega arith) (subst (EntryIs ((c .before .before .before .before .before .before .before .before .before .before .args) .nodes .now) ((c .before .before .before .before .before .before .before .before .before .before .args) .coeffs .now) ((c .before .before .before .before .before .before .before .before .before .before .args) .keys .now) ((c .before .before .before .before .before .before .before .before .before .before .args) .n) (getD ((c .before .before .before .before .before .before .before .before .before .before .args) .coeffs2 .now) ((c .before .before .before .before .before .loop) .i) (pos 0)) (getD ((c .before .before .before .before .before .before .before .before .before .before .args) .keys2 .now) ((c .before .before .before .before .before .loop) .i) 0)) (not-false _ ((c .if1) .left)) (rw (back _ ((c .before .before .before .coefficient-is-arg) .given)) at ((c .before .coefficient-is) .ensures)))
+loop-again c = are-more ((c .before .before .before .before .before .before .before .before .before .args) .nodes .now) (placed rightAt ((c .before .before .before .before .before .before .before .before .before .args) .coeffs .now)) (placed leftAt ((c .before .before .before .before .before .before .before .before .before .args) .keys .now)) ((c .before .before .before .before .before .before .before .before .before .args) .n) (placed conclusionAt ((c .before .before .before .before .before .before .before .before .before .args) .coeffs .now)) (placed conclusionAt ((c .before .before .before .before .before .before .before .before .before .args) .keys .now)) ((c .before .before .before .before .before .before .before .before .before .args) .m) ((c .before .before .before .before .before .loop) .i) ((c .before .before .before .before .before .loop) .inv) (omega arith) (subst (EntryIs ((c .before .before .before .before .before .before .before .before .before .args) .nodes .now) (placed rightAt ((c .before .before .before .before .before .before .before .before .before .args) .coeffs .now)) (placed leftAt ((c .before .before .before .before .before .before .before .before .before .args) .keys .now)) ((c .before .before .before .before .before .before .before .before .before .args) .n) (getD (placed conclusionAt ((c .before .before .before .before .before .before .before .before .before .args) .coeffs .now)) ((c .before .before .before .before .before .loop) .i) (pos 0)) (getD (placed conclusionAt ((c .before .before .before .before .before .before .before .before .before .args) .keys .now)) ((c .before .before .before .before .before .loop) .i) 0)) (not-false _ ((c .if1) .left)) (rw (back _ ((c .before .before .before .c) .given), ← (coefficient-at conclusionAt ((c .before .before .before .before .before .before .before .before .before .args) .coeffs .now) ((c .before .before .before .before .before .loop) .i) (omega (arith, (c .before .before .before .before .before .before .before .before .before .pre) .1 .most))), ← (key-at conclusionAt ((c .before .before .before .before .before .before .before .before .before .args) .keys .now) ((c .before .before .before .before .before .loop) .i) (omega (arith, (c .before .before .before .before .before .before .before .before .before .pre) .1 .most)))) at ((c .before .coefficient-is) .ensures)))
 
 returns-2 : tie.Need-returns-2 Inv-loop μ-loop
-returns-2 c = are-end ((c .before .before .before .before .before .before .args) .nodes .now) ((c .before .before .before .before .before .before .args) .coeffs .now) ((c .before .before .before .before .before .before .args) .keys .now) ((c .before .before .before .before .before .before .args) .n) ((c .before .before .before .before .before .before .args) .coeffs2 .now) ((c .before .before .before .before .before .before .args) .keys2 .now) ((c .before .before .before .before .before .before .args) .m) ((c .before .loop) .i) ((c .before .loop) .inv) (omega arith)
+returns-2 c = are-end ((c .before .before .before .before .before .args) .nodes .now) (placed rightAt ((c .before .before .before .before .before .args) .coeffs .now)) (placed leftAt ((c .before .before .before .before .before .args) .keys .now)) ((c .before .before .before .before .before .args) .n) (placed conclusionAt ((c .before .before .before .before .before .args) .coeffs .now)) (placed conclusionAt ((c .before .before .before .before .before .args) .keys .now)) ((c .before .before .before .before .before .args) .m) ((c .before .loop) .i) ((c .before .loop) .inv) (omega arith)
 
 pub coefficients-are-spec : {M : Type 1} → statement M
 coefficients-are-spec =
@@ -60,10 +66,12 @@ coefficients-are-spec =
     Inv-loop
     μ-loop
     loop-holds
-    mul-coefficient-is
-    shared-slice-copy-out-coefficient-is
-    mul-coefficient-is-2
-    shared-slice-read-coefficient-is
+    add-c
+    mul-c
+    shared-slice-copy-out-c
+    add-key
+    mul-key
+    shared-slice-read-key
     coefficient-is-requires
     returns
     add-i

@@ -17,6 +17,12 @@ same-length-2 c = search needs
 same-length-3 : tie.Need-same-length-3
 same-length-3 c = search needs
 
+returns : tie.Need-returns
+returns c = by-multiplication ((c .before .before .before .before .before .before .before .before .before .before .before .before .before .before .before .before .before .args) .nodes .now) ((c .before .before .before .before .before .before .before .before .before .before .before .before .before .before .before .before .before .args) .commands .now) ((c .before .before .before .before .before .before .before .before .before .before .before .before .before .before .before .before .before .args) .premises .now) ((c .before .before .before .before .before .before .before .before .before .before .before .before .before .before .before .before .before .args) .args .now) ((c .before .before .before .before .before .before .before .before .before .before .before .before .before .before .before .before .before .args) .conclusion .now) ((c .before .before .before .before .before .cp-multiplication) .result) ((c .before .before .before .before .before .before .before .before .before .before .before .before .before .before .before .before .before .args) .rule) (omega arith) ((c .before .before .before .before .before .cp-multiplication) .ensures)
+
+cp-division-requires : tie.Need-cp-division-requires
+cp-division-requires c κs = search needs
+
 same-length-4 : tie.Need-same-length-4
 same-length-4 c = search needs
 
@@ -26,11 +32,11 @@ same-length-5 c = search needs
 same-length-6 : tie.Need-same-length-6
 same-length-6 c = search needs
 
-returns : tie.Need-returns
-returns c = by-multiplication ((c .before .before .before .before .before .before .before .before .before .before .before .before .before .before .before .before .before .before .before .before .before .before .before .before .before .before .before .args) .nodes .now) ((c .before .before .before .before .before .before .before .before .before .before .before .before .before .before .before .before .before .before .before .before .before .before .before .before .before .before .before .args) .commands .now) ((c .before .before .before .before .before .before .before .before .before .before .before .before .before .before .before .before .before .before .before .before .before .before .before .before .before .before .before .args) .premises .now) ((c .before .before .before .before .before .before .before .before .before .before .before .before .before .before .before .before .before .before .before .before .before .before .before .before .before .before .before .args) .args .now) ((c .before .before .before .before .before .before .before .before .before .before .before .before .before .before .before .before .before .before .before .before .before .before .before .before .before .before .before .args) .conclusion .now) ((c .before .before .before .before .before .before .before .before .before .before .cp-multiplication) .result) ((c .before .before .before .before .before .before .before .before .before .before .before .before .before .before .before .before .before .before .before .before .before .before .before .before .before .before .before .args) .rule) (omega arith) ((c .before .before .before .before .before .before .before .before .before .before .cp-multiplication) .ensures)
+returns-2 : tie.Need-returns-2
+returns-2 c = by-division ((c .before .before .before .before .before .before .before .before .before .before .before .before .before .before .before .before .before .before .args) .nodes .now) ((c .before .before .before .before .before .before .before .before .before .before .before .before .before .before .before .before .before .before .args) .commands .now) ((c .before .before .before .before .before .before .before .before .before .before .before .before .before .before .before .before .before .before .args) .premises .now) ((c .before .before .before .before .before .before .before .before .before .before .before .before .before .before .before .before .before .before .args) .args .now) ((c .before .before .before .before .before .before .before .before .before .before .before .before .before .before .before .before .before .before .args) .conclusion .now) ((c .before .before .before .before .before .cp-division) .result) ((c .before .before .before .before .before .before .before .before .before .before .before .before .before .before .before .before .before .before .args) .rule) (omega arith) ((c .before .before .before .before .before .cp-division) .ensures)
 
-cp-division-requires : tie.Need-cp-division-requires
-cp-division-requires c κs = search needs
+cp-saturation-requires : tie.Need-cp-saturation-requires
+cp-saturation-requires c κs = search needs
 
 same-length-7 : tie.Need-same-length-7
 same-length-7 c = search needs
@@ -41,41 +47,8 @@ same-length-8 c = search needs
 same-length-9 : tie.Need-same-length-9
 same-length-9 c = search needs
 
-same-length-10 : tie.Need-same-length-10
-same-length-10 c = search needs
-
-same-length-11 : tie.Need-same-length-11
-same-length-11 c = search needs
-
-same-length-12 : tie.Need-same-length-12
-same-length-12 c = search needs
-
-returns-2 : tie.Need-returns-2
-returns-2 c = by-division ((c .before .before .before .before .before .before .before .before .before .before .before .before .before .before .before .before .before .before .before .before .before .before .before .before .before .before .before .before .args) .nodes .now) ((c .before .before .before .before .before .before .before .before .before .before .before .before .before .before .before .before .before .before .before .before .before .before .before .before .before .before .before .before .args) .commands .now) ((c .before .before .before .before .before .before .before .before .before .before .before .before .before .before .before .before .before .before .before .before .before .before .before .before .before .before .before .before .args) .premises .now) ((c .before .before .before .before .before .before .before .before .before .before .before .before .before .before .before .before .before .before .before .before .before .before .before .before .before .before .before .before .args) .args .now) ((c .before .before .before .before .before .before .before .before .before .before .before .before .before .before .before .before .before .before .before .before .before .before .before .before .before .before .before .before .args) .conclusion .now) ((c .before .before .before .before .before .before .before .before .before .before .cp-division) .result) ((c .before .before .before .before .before .before .before .before .before .before .before .before .before .before .before .before .before .before .before .before .before .before .before .before .before .before .before .before .args) .rule) (omega arith) ((c .before .before .before .before .before .before .before .before .before .before .cp-division) .ensures)
-
-cp-saturation-requires : tie.Need-cp-saturation-requires
-cp-saturation-requires c κs = search needs
-
-same-length-13 : tie.Need-same-length-13
-same-length-13 c = search needs
-
-same-length-14 : tie.Need-same-length-14
-same-length-14 c = search needs
-
-same-length-15 : tie.Need-same-length-15
-same-length-15 c = search needs
-
-same-length-16 : tie.Need-same-length-16
-same-length-16 c = search needs
-
-same-length-17 : tie.Need-same-length-17
-same-length-17 c = search needs
-
-same-length-18 : tie.Need-same-length-18
-same-length-18 c = search needs
-
 returns-3 : tie.Need-returns-3
-returns-3 c = by-saturation ((c .before .before .before .before .before .before .before .before .before .before .before .before .before .before .before .before .before .before .before .before .before .before .before .before .before .before .before .before .args) .nodes .now) ((c .before .before .before .before .before .before .before .before .before .before .before .before .before .before .before .before .before .before .before .before .before .before .before .before .before .before .before .before .args) .commands .now) ((c .before .before .before .before .before .before .before .before .before .before .before .before .before .before .before .before .before .before .before .before .before .before .before .before .before .before .before .before .args) .premises .now) ((c .before .before .before .before .before .before .before .before .before .before .before .before .before .before .before .before .before .before .before .before .before .before .before .before .before .before .before .before .args) .args .now) ((c .before .before .before .before .before .before .before .before .before .before .before .before .before .before .before .before .before .before .before .before .before .before .before .before .before .before .before .before .args) .conclusion .now) ((c .before .before .before .before .before .before .before .before .before .before .cp-saturation) .result) ((c .before .before .before .before .before .before .before .before .before .before .before .before .before .before .before .before .before .before .before .before .before .before .before .before .before .before .before .before .args) .rule) (omega arith) ((c .before .before .before .before .before .before .before .before .before .before .cp-saturation) .ensures)
+returns-3 c = by-saturation ((c .before .before .before .before .before .before .before .before .before .before .before .before .before .before .before .before .before .before .args) .nodes .now) ((c .before .before .before .before .before .before .before .before .before .before .before .before .before .before .before .before .before .before .args) .commands .now) ((c .before .before .before .before .before .before .before .before .before .before .before .before .before .before .before .before .before .before .args) .premises .now) ((c .before .before .before .before .before .before .before .before .before .before .before .before .before .before .before .before .before .before .args) .args .now) ((c .before .before .before .before .before .before .before .before .before .before .before .before .before .before .before .before .before .before .args) .conclusion .now) ((c .before .before .before .before .before .cp-saturation) .result) ((c .before .before .before .before .before .before .before .before .before .before .before .before .before .before .before .before .before .before .args) .rule) (omega arith) ((c .before .before .before .before .before .cp-saturation) .ensures)
 
 pub check-map-spec : {M : Type 1} → statement M
 check-map-spec =
@@ -85,23 +58,14 @@ check-map-spec =
     same-length
     same-length-2
     same-length-3
+    returns
+    cp-division-requires
     same-length-4
     same-length-5
     same-length-6
-    returns
-    cp-division-requires
+    returns-2
+    cp-saturation-requires
     same-length-7
     same-length-8
     same-length-9
-    same-length-10
-    same-length-11
-    same-length-12
-    returns-2
-    cp-saturation-requires
-    same-length-13
-    same-length-14
-    same-length-15
-    same-length-16
-    same-length-17
-    same-length-18
     returns-3)

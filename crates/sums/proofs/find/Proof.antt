@@ -1,75 +1,78 @@
--- `sums::find` owes a key's place. By its slot: the key that the slot's word names is this literal, or names share the slot, or no key has it; else by walking.
-use mathlib.Core.Path.{subst}
-use mathlib.Core.Bool.{Bool}
+-- `sums::find` owes a key's place. A name's stands where its slot says, or nowhere; any other term's is found by walking.
+use mathlib.Core.Path.{sym, ap, _∙_}
+use Prim.Native.Nat.{ℕ}
 use native.Mathlib.Omega.{arith}
 use borrow.Author.Needs.{needs}
 use lib.ListN.{getD}
-use Rattle.sums.specs.Found.{SameIs}
-use Rattle.sums.proofs.Slots.{find-here, find-none}
+use Rattle.nodes.specs.Nodes.{kindAt}
+use Rattle.matching.proofs.Matches.{node-room}
+use Rattle.matching.proofs.Places.{key-at}
+use Rattle.sums.proofs.Places.{slot-at, key-below}
+use Rattle.sums.proofs.Slots.{find-here, find-none, find-walked}
 use Rattle.sums.proofs.find.Statement.{statement}
 use Rattle.sums.proofs.find.Tie as tie
 
+variable-of-requires : tie.Need-variable-of-requires
+variable-of-requires c κs = search needs
+
+wide-requires : tie.Need-wide-requires
+wide-requires c κs = search needs
+
+kind-of-requires : tie.Need-kind-of-requires
+kind-of-requires c κs = rw ((c .wide) .ensures, (c .before .variable-of) .ensures) (node-room ((c .before .before .before .before .before .pre) .0 .node))
+
+walk-requires : tie.Need-walk-requires
+walk-requires c κs = ((c .before .before .before .before .before .before .before .pre) .0, ((c .before .before .before .before .before .before .before .pre) .1 .fine .literals, omega (arith, (c .before .before .before .before .before .before .before .pre) .1 .fine .few, (c .before .before .before .before .before .before .before .pre) .1 .keys), (c .before .before .before .before .before .before .before .pre) .1 .few, (c .before .before .before .before .before .before .before .pre) .1 .fine .few))
+
+returns : tie.Need-returns
+returns c = find-walked (λ o. omega (arith, (c .before .before .kind-of) .ensures ∙ ap (kindAt ((c .before .before .before .before .before .before .before .before .args) .nodes .now)) ((c .before .before .before .wide) .ensures ∙ (c .before .before .before .before .variable-of) .ensures))) ((c .walk) .ensures)
+
 slot-of-requires : tie.Need-slot-of-requires
-slot-of-requires c κs = search needs
+slot-of-requires c κs = key-below ((c .before .before .before .before .before .before .before .pre) .0)
 
 mul-wide-short : tie.Need-mul-wide-short
-mul-wide-short c = search needs
+mul-wide-short c = omega (arith, (c .slot-of) .ensures .1)
 
 shared-slice-read-wide-short : tie.Need-shared-slice-read-wide-short
-shared-slice-read-wide-short c = search needs
+shared-slice-read-wide-short c = omega (arith, (c .before .slot-of) .ensures .0, key-below ((c .before .before .before .before .before .before .before .before .before .pre) .0), (c .before .before .before .before .before .before .before .before .before .pre) .1 .slots)
 
 wide-short-requires : tie.Need-wide-short-requires
 wide-short-requires c κs = search needs
 
-returns : tie.Need-returns
-returns c = find-none ((c .before .before .before .before .before .before .before .before .args) .key) ((c .before .before .before .before .before .before .before .before .pre) .0) ((c .before .before .before .before .before .before .before .before .pre) .1 .fine) ((c .before .before .before .before .slot-of) .result) ((c .before .before .before .before .slot-of) .ensures) (omega arith) ((c .before .wide-short) .result) ((c .before .wide-short) .ensures) (λ a b. omega arith)
+add-if3 : tie.Need-add-if3
+add-if3 c = search needs
 
-mul-same-name : tie.Need-mul-same-name
-mul-same-name c = search needs
+mul-if3 : tie.Need-mul-if3
+mul-if3 c = search needs
 
-shared-slice-read-same-name : tie.Need-shared-slice-read-same-name
-shared-slice-read-same-name c = search needs
-
-same-name-requires : tie.Need-same-name-requires
-same-name-requires c κs = (((c .before .before .before .before .before .before .before .before .before .pre) .0, omega (arith, (c .before .before .before .before .before .slot-of) .ensures)), (c .before .before .before .before .before .before .before .before .before .pre) .1 .fine .nodes ((c .before .before .wide-short) .result) (omega arith))
+shared-slice-read-if3 : tie.Need-shared-slice-read-if3
+shared-slice-read-if3 c = search needs
 
 returns-2 : tie.Need-returns-2
-returns-2 c = find-here ((c .before .before .before .before .before .before .before .before .before .before .before .args) .key) ((c .before .before .before .before .before .before .before .before .before .before .before .pre) .0) ((c .before .before .before .before .before .before .before .before .before .before .before .pre) .1 .fine) ((c .before .before .before .before .before .before .before .slot-of) .result) ((c .before .before .before .before .before .before .before .slot-of) .ensures) (omega arith) ((c .before .before .before .before .wide-short) .result) ((c .before .before .before .before .wide-short) .ensures) (omega arith) (subst (λ (r : Bool). SameIs ((c .before .before .before .before .before .before .before .before .before .before .before .args) .nodes .now) ((c .before .before .before .before .before .before .before .before .before .before .before .args) .key) (getD ((c .before .before .before .before .before .before .before .before .before .before .before .args) .keys .now) ((c .before .before .before .before .wide-short) .result) 0) r) ((c .if3) .taken) ((c .before .same-name) .ensures))
-
-mul-slot-of : tie.Need-mul-slot-of
-mul-slot-of c = search needs
-
-shared-slice-read-slot-of : tie.Need-shared-slice-read-slot-of
-shared-slice-read-slot-of c = search needs
-
-slot-of-requires-2 : tie.Need-slot-of-requires-2
-slot-of-requires-2 c κs = (c .before .before .before .before .before .before .before .before .before .before .before .before .pre) .1 .fine .nodes ((c .before .before .before .before .before .wide-short) .result) (omega arith)
+returns-2 c = find-here ((c .before .before .before .before .before .before .before .before .before .before .before .before .before .args) .key) ((c .before .before .before .before .before .before .before .before .before .before .before .before .before .pre) .0) ((c .before .before .before .before .before .before .before .before .before .before .before .before .before .pre) .1 .fine) (omega (arith, (c .before .before .before .before .before .before .before .kind-of) .ensures ∙ ap (kindAt ((c .before .before .before .before .before .before .before .before .before .before .before .before .before .args) .nodes .now)) ((c .before .before .before .before .before .before .before .before .wide) .ensures ∙ (c .before .before .before .before .before .before .before .before .before .variable-of) .ensures))) ((c .before .before .before .wide-short) .result) ((c .before .before .before .wide-short) .ensures ∙ ap (λ (k : ℕ). getD ((c .before .before .before .before .before .before .before .before .before .before .before .before .before .args) .slots .now) k 0) ((c .before .before .before .before .before .slot-of) .ensures .0) ∙ sym (slot-at ((c .before .before .before .before .before .before .before .before .before .before .before .before .before .args) .at) ((c .before .before .before .before .before .before .before .before .before .before .before .before .before .args) .slots .now) ((c .before .before .before .before .before .before .before .before .before .before .before .before .before .args) .key) (key-below ((c .before .before .before .before .before .before .before .before .before .before .before .before .before .pre) .0)))) (omega arith) (rw (key-at ((c .before .before .before .before .before .before .before .before .before .before .before .before .before .args) .at) ((c .before .before .before .before .before .before .before .before .before .before .before .before .before .args) .keys .now) ((c .before .before .before .wide-short) .result) (omega (arith, (c .before .before .before .before .before .before .before .before .before .before .before .before .before .pre) .1 .fine .few))) (omega arith))
 
 returns-3 : tie.Need-returns-3
-returns-3 c = find-none ((c .before .before .before .before .before .before .before .before .before .before .before .before .before .before .args) .key) ((c .before .before .before .before .before .before .before .before .before .before .before .before .before .before .pre) .0) ((c .before .before .before .before .before .before .before .before .before .before .before .before .before .before .pre) .1 .fine) ((c .before .before .before .before .before .before .before .before .before .before .slot-of) .result) ((c .before .before .before .before .before .before .before .before .before .before .slot-of) .ensures) (omega arith) ((c .before .before .before .before .before .before .before .wide-short) .result) ((c .before .before .before .before .before .before .before .wide-short) .ensures) (λ a b. omega (arith, (c .before .slot-of2) .ensures))
-
-walk-requires : tie.Need-walk-requires
-walk-requires c κs = search needs
+returns-3 c = find-none ((c .before .before .before .before .before .before .before .before .before .before .before .before .before .args) .key) ((c .before .before .before .before .before .before .before .before .before .before .before .before .before .pre) .0) ((c .before .before .before .before .before .before .before .before .before .before .before .before .before .pre) .1 .fine) (omega (arith, (c .before .before .before .before .before .before .before .kind-of) .ensures ∙ ap (kindAt ((c .before .before .before .before .before .before .before .before .before .before .before .before .before .args) .nodes .now)) ((c .before .before .before .before .before .before .before .before .wide) .ensures ∙ (c .before .before .before .before .before .before .before .before .before .variable-of) .ensures))) ((c .before .before .before .wide-short) .result) ((c .before .before .before .wide-short) .ensures ∙ ap (λ (k : ℕ). getD ((c .before .before .before .before .before .before .before .before .before .before .before .before .before .args) .slots .now) k 0) ((c .before .before .before .before .before .slot-of) .ensures .0) ∙ sym (slot-at ((c .before .before .before .before .before .before .before .before .before .before .before .before .before .args) .at) ((c .before .before .before .before .before .before .before .before .before .before .before .before .before .args) .slots .now) ((c .before .before .before .before .before .before .before .before .before .before .before .before .before .args) .key) (key-below ((c .before .before .before .before .before .before .before .before .before .before .before .before .before .pre) .0)))) (λ a. rw (key-at ((c .before .before .before .before .before .before .before .before .before .before .before .before .before .args) .at) ((c .before .before .before .before .before .before .before .before .before .before .before .before .before .args) .keys .now) ((c .before .before .before .wide-short) .result) (omega (arith, (c .before .before .before .before .before .before .before .before .before .before .before .before .before .pre) .1 .fine .few))) (λ b. omega arith))
 
 returns-4 : tie.Need-returns-4
-returns-4 c = search needs
+returns-4 c = find-none ((c .before .before .before .before .before .before .before .before .before .before .before .args) .key) ((c .before .before .before .before .before .before .before .before .before .before .before .pre) .0) ((c .before .before .before .before .before .before .before .before .before .before .before .pre) .1 .fine) (omega (arith, (c .before .before .before .before .before .kind-of) .ensures ∙ ap (kindAt ((c .before .before .before .before .before .before .before .before .before .before .before .args) .nodes .now)) ((c .before .before .before .before .before .before .wide) .ensures ∙ (c .before .before .before .before .before .before .before .variable-of) .ensures))) ((c .before .wide-short) .result) ((c .before .wide-short) .ensures ∙ ap (λ (k : ℕ). getD ((c .before .before .before .before .before .before .before .before .before .before .before .args) .slots .now) k 0) ((c .before .before .before .slot-of) .ensures .0) ∙ sym (slot-at ((c .before .before .before .before .before .before .before .before .before .before .before .args) .at) ((c .before .before .before .before .before .before .before .before .before .before .before .args) .slots .now) ((c .before .before .before .before .before .before .before .before .before .before .before .args) .key) (key-below ((c .before .before .before .before .before .before .before .before .before .before .before .pre) .0)))) (λ a b. omega arith)
 
 pub find-spec : {M : Type 1} → statement M
 find-spec =
     tie.close
     (tie.spec
+    variable-of-requires
+    wide-requires
+    kind-of-requires
+    walk-requires
+    returns
     slot-of-requires
     mul-wide-short
     shared-slice-read-wide-short
     wide-short-requires
-    returns
-    mul-same-name
-    shared-slice-read-same-name
-    same-name-requires
+    add-if3
+    mul-if3
+    shared-slice-read-if3
     returns-2
-    mul-slot-of
-    shared-slice-read-slot-of
-    slot-of-requires-2
     returns-3
-    walk-requires
     returns-4)
