@@ -1,8 +1,10 @@
 //! Times the checker's library beside the Rust (the oracle: the original's rules with a reader, marks and a report around them) on the
 //! same texts in one run.
 //!
-//! Both are asked in turn, so that a change of the machine's speed meets both. A time is the median of the runs. Our tables are made once and
-//! not cleared between runs; what the Rust allocates is freed in its time.
+//! Both are asked in turn, so that a change of the machine's speed meets both. A time is the least of the runs: what else the machine does
+//! only ever adds to it. Our tables are made once and not cleared between runs; what the Rust allocates is freed in its time.
+//!
+//! `--texts FOLDER` writes the texts into a folder and times nothing (bench/speed/instructions).
 
 mod texts;
 
@@ -25,18 +27,24 @@ struct Times {
 }
 
 fn main() {
+    let words: Vec<String> = std::env::args().skip(1).collect();
+    if let [flag, folder] = &words[..]
+        && flag == "--texts"
+    {
+        return write_texts(folder.as_ref());
+    }
     if !oracle::ORIGINAL {
         eprintln!("the Rust is not at hand (CARCARA_SOURCE): there is nothing to be timed beside");
         std::process::exit(2);
     }
     let mut checker = cutting_planes::Checker::new();
-    println!("medians in microseconds; tables made once and not cleared between runs; the Rust frees what it allocates");
+    println!("least times in microseconds; tables made once and not cleared between runs; the Rust frees what it allocates");
     println!("{:<46}{:>7}{:>10}{:>10}{:>11}{:>8}", "text", "bytes", "proved", "the Rust", "(reading)", "ratio");
-    let mut least = f64::INFINITY;
+    let mut lowest = f64::INFINITY;
     for text in all() {
         let times = times(&mut checker, &text);
         let ratio = times.rust / times.library;
-        least = least.min(ratio);
+        lowest = lowest.min(ratio);
         println!(
             "{:<46}{:>7}{:>10.2}{:>10.2}{:>11.2}{:>8.2}",
             text.name,
@@ -47,8 +55,15 @@ fn main() {
             ratio
         );
     }
-    println!("least ratio: {least:.2} (the Rust's time by ours: above 1 the proved checker is the faster one)");
+    println!("least ratio: {lowest:.2} (the Rust's time by ours: above 1 the proved checker is the faster one)");
     growth(&mut checker);
+}
+
+/// Each text into a file of its own, in their order.
+fn write_texts(folder: &std::path::Path) {
+    for (number, text) in all().into_iter().enumerate() {
+        std::fs::write(folder.join(format!("{number:02} {}", text.name)), text.bytes).expect("the folder takes the texts");
+    }
 }
 
 /// How both times grow with the text.
@@ -71,7 +86,7 @@ fn growth(checker: &mut cutting_planes::Checker) {
     }
 }
 
-/// The medians for one text, on which both have to agree first.
+/// The least times for one text, on which both have to agree first.
 fn times(checker: &mut cutting_planes::Checker, text: &Text) -> Times {
     let bytes = &text.bytes[..];
     let report = checker.check_text(bytes);
@@ -91,7 +106,7 @@ fn times(checker: &mut cutting_planes::Checker, text: &Text) -> Times {
             black_box(oracle::read(&mut pool, black_box(bytes)).is_ok());
         }));
     }
-    Times { library: median(library), rust: median(rust), reading: median(reading) }
+    Times { library: least(&library), rust: least(&rust), reading: least(&reading) }
 }
 
 /// The microseconds of one call, over as many calls as fill a part.
@@ -105,8 +120,7 @@ fn part(mut call: impl FnMut()) -> f64 {
     start.elapsed().as_secs_f64() * 1e6 / f64::from(calls)
 }
 
-/// The middle one.
-fn median(mut times: Vec<f64>) -> f64 {
-    times.sort_by(f64::total_cmp);
-    times[times.len() / 2]
+/// The least one.
+fn least(times: &[f64]) -> f64 {
+    times.iter().copied().fold(f64::INFINITY, f64::min)
 }

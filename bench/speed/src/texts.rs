@@ -86,6 +86,7 @@ pub fn all() -> Vec<Text> {
         text("small steps, 1 KB", small_steps(1_024)),
         text("small steps, 32 KB", small_steps(32_768)),
         text("140 additions of five summands", additions(140)),
+        text("a multiplication of 20 summands, 20 names", multiplication(20, 20, |i| format!("v{i}"))),
         text("a multiplication of 400 summands, 400 names", multiplication(400, 400, |i| format!("v{i}"))),
         text("sums of 512 summands, 16 names", multiplication(512, 16, |i| format!("v{i}"))),
         text("sums of 512 summands, 512 names", multiplication(512, 512, |i| format!("v{i}"))),
