@@ -99,7 +99,7 @@ pub record Named (s t : List ℕ) (n : ℕ) : Type 0 where
   pub one : (i j : ℕ) → i < n → j < n → nameKind ≤ kindAt t i → kindAt t i ≡ kindAt t j → nameAt s t i ≡ nameAt s t j
   pub other : (i j : ℕ) → i < n → j < n → nameKind ≤ kindAt t i → nameKind ≤ kindAt t j → nameAt s t i ≡ nameAt s t j → kindAt t i ≡ kindAt t j
 
--- a variable's number is the first node with its name
+-- a variable's number is a node that has this number too, and none before it has: by `Named` the first node with its name
 pub record Firsts (t : List ℕ) (n : ℕ) : Type 0 where
   pub before : (i : ℕ) → i < n → nameKind ≤ kindAt t i → kindAt t i ≤ nameKind + i
   pub same : (i : ℕ) → i < n → nameKind ≤ kindAt t i → kindAt t (kindAt t i - nameKind) ≡ kindAt t i
