@@ -94,11 +94,12 @@ impl Tables {
         let nodes = self.answer[1] as u32;
         let mut numbers = vec![None; file.names.len()];
         let all = file.commands.iter().enumerate().all(|(number, command)| {
-            let [from, to] = self.commands[2 * number..][..2] else { return false };
+            let [start, end] = self.commands[2 * number..][..2] else { return false };
+            let from_end = |word: u16| text.len().wrapping_sub(word.into());
             let parts = &self.commands[PARTS + 7 * number..][..7];
             let parts: Vec<u32> = parts.iter().map(|&word| word.into()).collect();
             let [kind, clause, terms, premises, cited, arguments, given] = parts[..] else { return false };
-            text.get(from as usize..to as usize) == Some(command.id)
+            text.get(from_end(start)..from_end(end)) == Some(command.id)
                 && kind == command.rule.map_or(0, |rule| 1 + rule as u32)
                 && self.are_terms(clause, terms, &command.clause, file, text, &mut numbers, nodes)
                 && cited as usize == command.premises.len()

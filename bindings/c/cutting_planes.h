@@ -1,4 +1,5 @@
-/* Checks a cutting-planes proof from C: a text of assumptions and steps in, a report with a line for each and totals out.
+/* Checks a cutting-planes proof from C: a text of assumptions and steps in, a report with a line for each and totals out. The constraints
+ * can also come from an OPB text, with the proof text behind it.
  *
  * The library is target/staticlib/libchecker.a, which `rt staticlib checker` writes (x86-64 Linux). It needs nothing but C's memcpy and
  * memset:
@@ -15,7 +16,7 @@
 extern "C" {
 #endif
 
-/* The longest text in bytes. A longer one is no misuse: its report is "refused=2 byte=32768\n". */
+/* The longest text in bytes, of either kind. A longer one is no misuse: its report is "refused=2 byte=32768\n". */
 #define CUTTING_PLANES_TEXT_BYTES 32768
 
 /* The fewest words of a node table, and the fewest bytes of a report, that a call works with. More are allowed and never used. */
@@ -35,10 +36,35 @@ extern "C" {
  *
  * No pointer may be null, also where its length is 0; nodes is aligned as a uint32_t is. The three may not overlap. The library keeps no
  * pointer after it returns, has no state of its own, calls no function that has, and allocates nothing: calls from several threads
- * at once are fine as long as no two of them share a table. A call took up to 121,359 bytes of stack on the
+ * at once are fine as long as no two of them share a table. A call took up to 108,608 bytes of stack on the
  * longest and deepest texts of tests/vectors/reports; have 512 KB free.
  */
 size_t cutting_planes_check(
+    const uint8_t *text, size_t text_length,
+    uint32_t *nodes, size_t nodes_length,
+    uint8_t *report, size_t report_length);
+
+/* Writes the report of an OPB text and the proof text behind it, and returns its length in bytes, which is at most report_length.
+ *
+ * Each constraint of the OPB text becomes an assumption, an = becomes two. Their ids are c1, c2 and so on; they have lines of their own, and
+ * the proof text may cite them. The limits hold for both texts together, but for the 32,768 bytes, which each may have. With an empty OPB text the
+ * report is the one that cutting_planes_check writes; with an empty proof text it is the OPB text's alone.
+ *
+ * The return value means what it means for cutting_planes_check: 0 where a table is too small, and then nothing was written. A refusal is
+ * the one line "refused=N byte=P", where the byte counts in the text that is refused. The OPB text is judged first, and 50 and 51 are
+ * refusals of it alone; for 2 to 5 and 7 the line does not say which text it is about. A call with an empty proof text does: it
+ * refuses as this one where the OPB text is the reason, and else not at all.
+ *
+ * opb     opb_length bytes of any values, not changed.
+ * text    text_length bytes of any values, not changed.
+ * nodes, report  as for cutting_planes_check.
+ *
+ * No pointer may be null, also where its length is 0; nodes is aligned as a uint32_t is. opb and text are only read and may overlap each
+ * other; nodes and report may overlap nothing. All else is as above. A call took up to 203,488 bytes of stack on the longest
+ * and deepest texts of tests/vectors/opb and tests/vectors/reports; have 512 KB free.
+ */
+size_t cutting_planes_check_opb(
+    const uint8_t *opb, size_t opb_length,
     const uint8_t *text, size_t text_length,
     uint32_t *nodes, size_t nodes_length,
     uint8_t *report, size_t report_length);

@@ -1,8 +1,9 @@
-//! Demand 3 by all assignments: truth as section 5 of document 01 gives it, over the terms that the oracle's reader has read. Only the
-//! marks are the library's own.
+//! Demand 3 by all assignments: truth as section 5 of document 01 gives it, over the terms that the oracle's reader has read, and the solutions
+//! of an OPB text from its own bytes (`solutions.rs`). Only the marks are the library's own.
 
 use crate::report::Line;
 use crate::rules::Rule;
+use crate::solutions::{self, Constraint};
 use oracle::ast::{Constant, Operator};
 use oracle::{Account, Term};
 use std::collections::HashMap;
@@ -157,15 +158,21 @@ struct Marked {
     statement: Option<Statement>,
 }
 
-/// A read text: the assumptions that are statements, and the lines that the library marks.
-struct Claim {
+/// A read text: the constraints before it, its own assumptions that are statements, and the lines that the library marks.
+struct Claim<'t> {
+    constraints: Vec<Constraint<'t>>,
     assumptions: Vec<Statement>,
     marked: Vec<Marked>,
     refuted: bool,
 }
 
-impl Claim {
-    fn holds_assumptions(&self, assignment: u64) -> Result<bool, TooLarge> {
+impl Claim<'_> {
+    /// Whether an assignment solves the constraints and satisfies the assumptions.
+    fn holds_assumptions(&self, names: &Names, assignment: u64) -> Result<bool, TooLarge> {
+        let value = |name: &str| names.numbers.get(name).map_or(0, |number| i128::from(assignment >> number & 1));
+        if !self.constraints.iter().all(|constraint| constraint.is_true(value)) {
+            return Ok(false);
+        }
         for assumption in &self.assumptions {
             if !is_true(assumption, assignment)? {
                 return Ok(false);
@@ -192,10 +199,10 @@ impl Claim {
     }
 
     /// How many assignments satisfy the assumptions, or what is wrong under one of them.
-    fn models(&self, variables: usize) -> Result<Result<u64, String>, TooLarge> {
+    fn models(&self, names: &Names) -> Result<Result<u64, String>, TooLarge> {
         let mut models = 0;
-        for assignment in 0..1u64 << variables {
-            if self.holds_assumptions(assignment)? {
+        for assignment in 0..1u64 << names.numbers.len() {
+            if self.holds_assumptions(names, assignment)? {
                 models += 1;
                 if let Some(wrong) = self.wrong_under(assignment)? {
                     return Ok(Err(format!("{wrong} (assignment {assignment:b}, the first variable last)")));
@@ -206,16 +213,23 @@ impl Claim {
     }
 }
 
-/// Try all assignments on a read text with the marks of the library's report.
-pub fn tried(account: &Account, lines: &[Line], refuted: bool) -> Outcome {
+/// Try all assignments on a read text, behind an OPB text or an empty one, with the marks of the library's report.
+pub fn tried(opb: &[u8], account: &Account, lines: &[Line], refuted: bool) -> Outcome {
     if account.commands.len() != lines.len() {
         return Outcome::Wrong("the report has another number of lines than the text has commands".to_owned());
     }
+    let Some(constraints) = solutions::constraints(opb) else {
+        return Outcome::Wrong("the OPB text is read, and has no constraints of the form that is due".to_owned());
+    };
     let mut names = Names::default();
-    let mut claim = Claim { assumptions: Vec::new(), marked: Vec::new(), refuted };
+    for (_, variable, _) in constraints.iter().flat_map(|constraint| &constraint.summands) {
+        names.number(variable);
+    }
+    let given: usize = constraints.iter().map(Constraint::assumptions).sum();
+    let mut claim = Claim { constraints, assumptions: Vec::new(), marked: Vec::new(), refuted };
     let (mut steps, mut assumptions) = (0, 0);
     for (place, (command, line)) in account.commands.iter().zip(lines).enumerate() {
-        if line.rule == Rule::Assume {
+        if line.rule == Rule::Assume && place >= given {
             claim.assumptions.extend(names.clause(&command.clause));
         }
         if line.holds {
@@ -227,7 +241,7 @@ pub fn tried(account: &Account, lines: &[Line], refuted: bool) -> Outcome {
     if variables > MOST_VARIABLES || (lines.len() << variables) > MOST_WORK {
         return Outcome::Untried;
     }
-    match claim.models(variables) {
+    match claim.models(&names) {
         Err(TooLarge) => Outcome::Untried,
         Ok(Err(wrong)) => Outcome::Wrong(wrong),
         Ok(Ok(models)) => Outcome::Fine { models, steps, assumptions },
@@ -242,11 +256,16 @@ mod tests {
 
     /// What comes out where every line of the text is marked.
     fn all_marked(text: &str, refuted: bool) -> Outcome {
-        let account = oracle::account(text.as_bytes()).expect("the text is read");
+        all_marked_behind("", text, refuted)
+    }
+
+    /// The same behind an OPB text.
+    fn all_marked_behind(opb: &str, text: &str, refuted: bool) -> Outcome {
+        let account = oracle::account_both(opb.as_bytes(), text.as_bytes()).expect("the texts are read");
         let rule_of = |id: &str| if id.starts_with('t') { Rule::Part } else { Rule::Assume };
         let line = |id: &str| Line { rule: rule_of(id), answer: 0, plain: true, holds: true };
         let lines: Vec<Line> = account.commands.iter().map(|command| line(&command.id)).collect();
-        tried(&account, &lines, refuted)
+        tried(opb.as_bytes(), &account, &lines, refuted)
     }
 
     fn step(assumption: &str, conclusion: &str) -> String {
@@ -287,6 +306,21 @@ mod tests {
     fn refuted_asks_for_no_assignment() {
         assert!(matches!(all_marked("(assume a (>= (+ x y) 2))", true), Outcome::Wrong(_)));
         assert!(matches!(all_marked("(assume a (>= (+ x y) 3))", true), Outcome::Fine { models: 0, .. }));
+    }
+
+    #[test]
+    fn solutions_of_an_opb_text() {
+        let follows = |opb: &str, conclusion: &str| {
+            let text = format!("(step t (cl {conclusion}) :rule cp_part :premises (c1) :args (0))");
+            all_marked_behind(opb, &text, false)
+        };
+        assert!(matches!(follows("2 x1 -1 ~x2 >= 1 ;", "(>= x1 1)"), Outcome::Fine { models: 2, steps: 1, assumptions: 1 }));
+        assert!(matches!(follows("1 x1 1 x2 = 2 ;", "(>= x2 1)"), Outcome::Fine { models: 1, steps: 1, assumptions: 2 }));
+        assert!(matches!(follows("1 x1 1 x2 >= 1 ;", "(>= x2 1)"), Outcome::Wrong(_)));
+        assert!(matches!(follows("1 ~x2 >= 1 ;", "(>= x2 1)"), Outcome::Wrong(_)));
+        assert!(matches!(all_marked_behind("1 x1 >= 2 ;", "", true), Outcome::Fine { models: 0, .. }));
+        assert!(matches!(all_marked_behind("1 x1 >= 1 ;", "(assume a (>= 0 x1))", true), Outcome::Fine { models: 0, .. }));
+        assert!(matches!(all_marked_behind("1 x1 >= 1 ;", "", true), Outcome::Wrong(_)));
     }
 
     #[test]

@@ -1,6 +1,7 @@
 //! Counts of a run, and what a long run has to have reached.
 
 use crate::brute::Outcome;
+use crate::pair::Pair;
 use crate::report::{Line, Report};
 use crate::rules::{Rule, ANSWERS, RULES};
 use crate::texts;
@@ -10,6 +11,56 @@ use std::fmt::Write;
 pub const LONG: u64 = 50_000;
 
 const RULES_AND_ASSUME: usize = RULES.len() + 1;
+
+/// The refusals of a proof text, and of an OPB text.
+const REFUSALS: [usize; 8] = [1, 2, 3, 4, 5, 6, 7, 8];
+const OPB_REFUSALS: [usize; 7] = [2, 3, 4, 5, 7, 50, 51];
+/// The numbers of refusals are below.
+const NUMBERS: usize = 52;
+
+/// Counts of refusals by their numbers.
+struct Refusals([u64; NUMBERS]);
+
+impl Default for Refusals {
+    fn default() -> Refusals {
+        Refusals([0; NUMBERS])
+    }
+}
+
+impl Refusals {
+    fn add(&mut self, number: u8) {
+        self.0[usize::from(number).min(NUMBERS - 1)] += 1;
+    }
+
+    /// The counts of those that are due; others are there only where one came.
+    fn shown(&self, due: &[usize]) -> String {
+        let shown = (0..NUMBERS).filter(|number| due.contains(number) || self.0[*number] > 0);
+        shown.map(|number| format!("{number}: {}", self.0[number])).collect::<Vec<_>>().join(", ")
+    }
+
+    /// Those that are due and never came, and those that came and are not due.
+    fn missing<'a>(&'a self, due: &'a [usize], whose: &'a str) -> impl Iterator<Item = String> + 'a {
+        (0..NUMBERS).filter_map(move |number| match (due.contains(&number), self.0[number]) {
+            (true, 0) => Some(format!("{whose}: refusal {number} never came")),
+            (false, 1..) => Some(format!("{whose}: refusal {number} came, which the documents do not have")),
+            _ => None,
+        })
+    }
+}
+
+/// What was counted of pairs alone.
+#[derive(Default)]
+struct Pairs {
+    all: u64,
+    read: u64,
+    refuted: u64,
+    opb: Refusals,
+    behind: Refusals,
+    /// Lines with `holds=yes` that were tried, and of them with a solution; refuted pairs that were tried.
+    tried: u64,
+    tried_with_solution: u64,
+    tried_refuted: u64,
+}
 
 /// Counts of answers, from 0 to 41.
 struct Answers([u64; ANSWERS]);
@@ -29,7 +80,8 @@ pub struct Count {
     pub tried: u64,
     kinds: [u64; texts::KINDS.len()],
     answers: [Answers; RULES_AND_ASSUME],
-    refusals: [u64; 9],
+    refusals: Refusals,
+    pairs: Pairs,
     plain: [u64; RULES_AND_ASSUME],
     holds: [u64; RULES_AND_ASSUME],
     read: u64,
@@ -51,14 +103,24 @@ impl Count {
 
     /// Count tables that were too small.
     pub fn too_small(&mut self) {
-        self.refusals[1] += 1;
+        self.refusals.add(1);
     }
 
     /// Count what a report says.
-    pub fn report(&mut self, report: &Report) {
+    pub fn report(&mut self, report: &Report, pair: &Pair) {
+        self.pairs.all += u64::from(pair.opb.is_some());
         match report {
-            Report::Refused(number) => self.refusals[usize::from(*number).min(8)] += 1,
+            Report::Refused(number) => {
+                let refusals = match &pair.opb {
+                    None => &mut self.refusals,
+                    Some(opb) if oracle::read_opb(opb).is_err() => &mut self.pairs.opb,
+                    Some(_) => &mut self.pairs.behind,
+                };
+                refusals.add(*number);
+            }
             Report::Read(lines, refuted) => {
+                self.pairs.read += u64::from(pair.opb.is_some());
+                self.pairs.refuted += u64::from(*refuted && pair.opb.is_some());
                 self.read += 1;
                 self.refuted += u64::from(*refuted);
                 lines.iter().for_each(|line| self.line(line));
@@ -75,9 +137,15 @@ impl Count {
     }
 
     /// Count what trying all assignments gave.
-    pub fn outcome(&mut self, outcome: &Outcome, refuted: bool) {
+    pub fn outcome(&mut self, outcome: &Outcome, refuted: bool, pair: &Pair) {
         match outcome {
             Outcome::Fine { models, steps, assumptions } => {
+                if pair.opb.is_some() {
+                    let lines = steps + assumptions;
+                    self.pairs.tried += lines;
+                    self.pairs.tried_with_solution += if *models > 0 { lines } else { 0 };
+                    self.pairs.tried_refuted += u64::from(refuted);
+                }
                 self.tried_texts += 1;
                 self.tried_refuted += u64::from(refuted);
                 self.tried += steps + assumptions;
@@ -109,7 +177,9 @@ impl Count {
                 }
             }
         }
-        missing.extend((1..9).filter(|number| self.refusals[*number] == 0).map(|number| format!("refusal {number} never came")));
+        missing.extend(self.refusals.missing(&REFUSALS, "texts alone"));
+        missing.extend(self.pairs.opb.missing(&OPB_REFUSALS, "OPB texts"));
+        missing.extend(self.pairs.behind.missing(&REFUSALS[1..], "texts behind an OPB text"));
         missing.extend(self.missing_marks());
         missing
     }
@@ -129,6 +199,9 @@ impl Count {
         if self.refuted == 0 || self.tried_refuted == 0 {
             missing.push("no text is refuted".to_owned());
         }
+        if self.pairs.tried_with_solution == 0 || self.pairs.tried_refuted == 0 {
+            missing.push("no line behind an OPB text was tried with a solution, or no pair is refuted".to_owned());
+        }
         missing
     }
 
@@ -137,8 +210,8 @@ impl Count {
         let mut text = String::new();
         let kinds: Vec<String> = texts::KINDS.iter().zip(self.kinds).map(|(kind, count)| format!("{kind} {count}")).collect();
         let _ = writeln!(text, "texts {}: {}", self.texts, kinds.join(", "));
-        let refusals: Vec<String> = (1..9).map(|number| format!("{number}: {}", self.refusals[number])).collect();
-        let _ = writeln!(text, "read {}, refuted {}; refusals {}", self.read, self.refuted, refusals.join(", "));
+        let _ = writeln!(text, "read {}, refuted {}; refusals {}", self.read, self.refuted, self.refusals.shown(&REFUSALS));
+        self.pair_lines(&mut text);
         self.answer_table(&mut text);
         self.mark_table(&mut text);
         let _ = writeln!(
@@ -150,6 +223,18 @@ impl Count {
         let (lines, steps) = (self.tried_with_model, self.tried_steps_with_model);
         let _ = writeln!(text, "and with an assignment that satisfies the assumptions: {lines}, {steps} of them steps");
         text
+    }
+
+    fn pair_lines(&self, text: &mut String) {
+        let pairs = &self.pairs;
+        let _ = writeln!(text, "behind OPB texts {}: read {}, refuted {}", pairs.all, pairs.read, pairs.refuted);
+        let _ = writeln!(text, "  refusals of OPB texts {}", pairs.opb.shown(&OPB_REFUSALS));
+        let _ = writeln!(text, "  refusals of proof texts behind them {}", pairs.behind.shown(&REFUSALS[1..]));
+        let _ = writeln!(
+            text,
+            "  lines with holds=yes that were tried: {}, with a solution of the OPB text {}; refuted {}",
+            pairs.tried, pairs.tried_with_solution, pairs.tried_refuted
+        );
     }
 
     fn answer_table(&self, text: &mut String) {
@@ -180,23 +265,29 @@ impl Count {
 
 #[cfg(test)]
 mod tests {
-    use super::Count;
+    use super::{Count, OPB_REFUSALS, REFUSALS};
     use crate::brute::Outcome;
+    use crate::pair::Pair;
     use crate::report::{Line, Report};
     use crate::rules::RULES;
 
     /// A count that has everything once.
     fn all_reached() -> Count {
         let mut count = Count::default();
+        let (alone, behind) = (Pair::alone(Vec::new()), Pair::behind(Vec::new(), Vec::new()));
         count.too_small();
-        (2..9).for_each(|number| count.report(&Report::Refused(number)));
+        (2..9).for_each(|number| count.report(&Report::Refused(number), &alone));
+        (2..9).for_each(|number| count.report(&Report::Refused(number), &behind));
+        let refused = Pair::behind(b";".to_vec(), Vec::new());
+        OPB_REFUSALS.iter().for_each(|number| count.report(&Report::Refused(*number as u8), &refused));
         for rule in RULES {
             let refused = rule.answers()[1..].iter().map(|answer| Line { rule, answer: *answer, plain: false, holds: false });
             let accepted = [(true, true), (true, false), (!rule.can_be_unplain(), false)];
             let accepted = accepted.map(|(plain, holds)| Line { rule, answer: 0, plain, holds });
-            count.report(&Report::Read(refused.chain(accepted).collect(), true));
+            count.report(&Report::Read(refused.chain(accepted).collect(), true), &alone);
         }
-        count.outcome(&Outcome::Fine { models: 0, steps: 1, assumptions: 1 }, true);
+        count.outcome(&Outcome::Fine { models: 0, steps: 1, assumptions: 1 }, true, &behind);
+        count.outcome(&Outcome::Fine { models: 1, steps: 1, assumptions: 1 }, false, &behind);
         count
     }
 
@@ -205,14 +296,21 @@ mod tests {
         assert!(all_reached().missing().is_empty());
         let pairs: usize = RULES.iter().map(|rule| rule.answers().len()).sum();
         assert_eq!(pairs, 80);
-        assert!(Count::default().missing().len() >= pairs + 8);
+        assert!(Count::default().missing().len() >= pairs + 2 * REFUSALS.len() + OPB_REFUSALS.len());
+    }
+
+    #[test]
+    fn a_refusal_of_another_text_is_noticed() {
+        let mut count = all_reached();
+        count.report(&Report::Refused(51), &Pair::behind(Vec::new(), Vec::new()));
+        assert_eq!(count.missing(), ["texts behind an OPB text: refusal 51 came, which the documents do not have"]);
     }
 
     #[test]
     fn an_answer_of_another_rule_is_noticed() {
         let mut count = all_reached();
         let line = Line { rule: RULES[4], answer: 20, plain: false, holds: false };
-        count.report(&Report::Read(vec![line], false));
+        count.report(&Report::Read(vec![line], false), &Pair::alone(Vec::new()));
         assert_eq!(count.missing(), ["cp_literal answered 20, which document 01 does not have"]);
     }
 }

@@ -62,7 +62,7 @@ fn spaced(random: &mut Random) -> Vec<u8> {
     [b" ", random.one(&WORDS).as_bytes()].concat()
 }
 
-fn damaged_bytes(mut text: Vec<u8>, random: &mut Random) -> Vec<u8> {
+pub fn damaged_bytes(mut text: Vec<u8>, random: &mut Random) -> Vec<u8> {
     if text.is_empty() {
         return vec![any_byte(random)];
     }

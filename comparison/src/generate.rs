@@ -29,7 +29,12 @@ pub struct Maker<'r> {
 impl<'r> Maker<'r> {
     /// A maker with names of its own.
     pub fn new(random: &'r mut Random) -> Maker<'r> {
-        let mut names = POOL.to_vec();
+        Maker::with_names(random, &POOL)
+    }
+
+    /// A maker with some of these names.
+    pub fn with_names(random: &'r mut Random, pool: &[&'static str]) -> Maker<'r> {
+        let mut names = pool.to_vec();
         random.shuffle(&mut names);
         let count = if random.chance(97) { 1 + random.below(5) } else { 6 + random.below(5) };
         names.truncate(count);
@@ -56,7 +61,7 @@ impl<'r> Maker<'r> {
             2 => format!("_{:031}", number),
             _ => format!("s{number}"),
         };
-        self.commands.push(Command { id, rule, clause, premises, arguments, missed: false });
+        self.commands.push(Command { id, rule, clause, premises, arguments, missed: false, given: false });
         number
     }
 
@@ -199,7 +204,7 @@ impl<'r> Maker<'r> {
     // ------------------------------------------------------------ values under the text's own assignment
 
     /// The value of an arithmetic term under the assignment.
-    fn value(&self, term: &Term) -> Option<i64> {
+    pub fn value(&self, term: &Term) -> Option<i64> {
         match term {
             Number(number) => Some(*number),
             Name(name) => {

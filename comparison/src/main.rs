@@ -1,4 +1,4 @@
-//! Compares the exported library with the oracle, text by text, and tries the library's marks with all assignments.
+//! Compares the exported library with the oracle, text by text and pair by pair, and tries the library's marks with all assignments.
 
 mod brute;
 mod compare;
@@ -11,11 +11,17 @@ mod generate;
 mod library;
 mod limits;
 mod miss;
+mod models;
+mod opb_damage;
+mod opb_limits;
+mod opb_write;
 mod options;
+mod pair;
 mod random;
 mod report;
 mod rules;
 mod shrink;
+mod solutions;
 mod steps;
 mod term;
 mod texts;
@@ -24,6 +30,7 @@ mod write;
 use count::Count;
 use library::Library;
 use options::{Mode, Options};
+use pair::Pair;
 use random::Random;
 use std::io::Write;
 use std::path::Path;
@@ -42,16 +49,14 @@ fn main() -> ExitCode {
     };
     match &options.mode {
         Mode::Original => ended(Ok(if oracle::ORIGINAL { "yes" } else { "no" }.to_owned())),
-        Mode::Show(index) => {
-            let (_, text) = texts::text(options.seed, *index);
-            ended(std::io::stdout().write_all(&text).map(|()| String::new()).map_err(|problem| problem.to_string()))
-        }
+        Mode::Show(index) => ended(printed(&texts::text(options.seed, *index).1.text)),
+        Mode::ShowOpb(index) => ended(printed(texts::text(options.seed, *index).1.constraints())),
         Mode::WriteFixedList(_) | Mode::CheckFixedList(_) | Mode::File(_) | Mode::Compare if !oracle::ORIGINAL => {
             ended(Err("the original was not at hand when this was built: nothing to compare with".to_owned()))
         }
         Mode::WriteFixedList(folder) => ended(fixed::write(folder, options.seed)),
         Mode::CheckFixedList(folder) => ended(fixed::check(folder)),
-        Mode::File(path) => ended(one_file(path, options.seed)),
+        Mode::File(path) => ended(one_file(path, options.opb.as_deref(), options.seed)),
         Mode::Compare => ended(run(&options)),
     }
 }
@@ -71,13 +76,19 @@ fn ended(result: Result<String, String>) -> ExitCode {
     }
 }
 
-/// Compare one file.
-fn one_file(path: &Path, seed: u64) -> Result<String, String> {
-    let text = std::fs::read(path).map_err(|problem| format!("{}: {problem}", path.display()))?;
+/// Print bytes.
+fn printed(bytes: &[u8]) -> Result<String, String> {
+    std::io::stdout().write_all(bytes).map(|()| String::new()).map_err(|problem| problem.to_string())
+}
+
+/// Compare one file, behind an OPB text or alone.
+fn one_file(path: &Path, opb: Option<&Path>, seed: u64) -> Result<String, String> {
+    let read = |path: &Path| std::fs::read(path).map_err(|problem| format!("{}: {problem}", path.display()));
+    let pair = Pair { opb: opb.map(read).transpose()?, text: read(path)? };
     let mut library = Library::new(seed);
-    match compare::compared(&text, &mut library, &mut Random::new(seed, 0), &mut Count::default()) {
+    match compare::compared(&pair, &mut library, &mut Random::new(seed, 0), &mut Count::default()) {
         Ok(()) => Ok("no difference".to_owned()),
-        Err(_) => Err(compare::explained(&text, &mut library, seed)),
+        Err(_) => Err(compare::explained(&pair, &mut library, seed)),
     }
 }
 
@@ -95,12 +106,12 @@ impl Run<'_> {
         self.start.elapsed().as_secs_f64()
     }
 
-    /// Compare one text; what is wrong as an error.
-    fn text(&mut self, kind: usize, text: &[u8], random: &mut Random, name: &str) -> Result<(), String> {
+    /// Compare one text or pair; what is wrong as an error.
+    fn text(&mut self, kind: usize, pair: &Pair, random: &mut Random, name: &str) -> Result<(), String> {
         self.count.text(kind);
-        if compare::compared(text, &mut self.library, random, &mut self.count).is_err() {
+        if compare::compared(pair, &mut self.library, random, &mut self.count).is_err() {
             println!("{name} of seed {} fails", self.options.seed);
-            let smallest = self.smallest_failing(text);
+            let smallest = self.smallest_failing(pair);
             return Err(compare::explained(&smallest, &mut self.library, self.options.seed));
         }
         if self.seconds() > self.shown + PROGRESS {
@@ -110,9 +121,9 @@ impl Run<'_> {
         Ok(())
     }
 
-    /// The smallest text that fails among some more: a small one is shrunk further than a large one.
-    fn smallest_failing(&mut self, text: &[u8]) -> Vec<u8> {
-        let mut smallest = text.to_vec();
+    /// The smallest text or pair that fails among some more: a small one is shrunk further than a large one.
+    fn smallest_failing(&mut self, pair: &Pair) -> Pair {
+        let mut smallest = pair.clone();
         for index in self.options.from..self.options.from + MORE_TEXTS {
             let (_, other) = texts::text(self.options.seed, index);
             let mut random = Random::new(!self.options.seed, index);
@@ -127,16 +138,17 @@ impl Run<'_> {
 
     /// All texts at limits, then texts from the seed.
     fn texts(&mut self) -> Result<(), String> {
-        let limits = texts::KINDS.len() - 1;
-        for (place, text) in limits::all().iter().enumerate() {
+        let alone = limits::all().into_iter().map(|text| (texts::LIMIT, Pair::alone(text)));
+        let both = opb_limits::all().into_iter().map(|pair| (texts::OPB_LIMIT, pair));
+        for (place, (kind, pair)) in alone.chain(both).enumerate() {
             let mut random = Random::new(self.options.seed, place as u64);
-            self.text(limits, text, &mut random, &format!("limit {place}"))?;
+            self.text(kind, &pair, &mut random, &format!("limit {place}"))?;
         }
         let mut index = self.options.from;
         while !self.is_over() {
-            let (kind, text) = texts::text(self.options.seed, index);
+            let (kind, pair) = texts::text(self.options.seed, index);
             let mut random = Random::new(!self.options.seed, index);
-            self.text(kind, &text, &mut random, &format!("text {index}"))?;
+            self.text(kind, &pair, &mut random, &format!("text {index}"))?;
             index += 1;
         }
         Ok(())

@@ -7,8 +7,9 @@ pub const USAGE: &str = "\
 comparison [--seed S] [--from INDEX] [--texts N] [--steps N] [--marked N] [--seconds S]
     compare the library with the oracle until each number that is given is reached, or the seconds are over;
     60 seconds where nothing is given
-comparison --file FILE                  compare one text
+comparison [--opb FILE] --file FILE     compare one text, behind an OPB text or alone
 comparison --show INDEX [--seed S]      print the text of an index
+comparison --show-opb INDEX [--seed S]  print the OPB text before it, where it has one
 comparison --write-fixed-list FOLDER [--seed S]
 comparison --check-fixed-list FOLDER    whether the stored reports are what the oracle says now
 comparison --original                   whether the original was at hand when this was built: yes or no
@@ -19,6 +20,7 @@ pub enum Mode {
     Compare,
     File(PathBuf),
     Show(u64),
+    ShowOpb(u64),
     WriteFixedList(PathBuf),
     CheckFixedList(PathBuf),
     Original,
@@ -27,6 +29,8 @@ pub enum Mode {
 /// Mode, seed and the ends of a run.
 pub struct Options {
     pub mode: Mode,
+    /// The OPB text before the one that is compared.
+    pub opb: Option<PathBuf>,
     pub seed: u64,
     pub from: u64,
     pub texts: u64,
@@ -39,7 +43,7 @@ impl Options {
     /// The options of the command line, or what is wrong with them.
     pub fn parsed(mut words: impl Iterator<Item = String>) -> Result<Options, String> {
         let mut options =
-            Options { mode: Mode::Compare, seed: 20_261_116, from: 0, texts: 0, steps: 0, marked: 0, seconds: None };
+            Options { mode: Mode::Compare, opb: None, seed: 20_261_116, from: 0, texts: 0, steps: 0, marked: 0, seconds: None };
         while let Some(word) = words.next() {
             if word == "--original" {
                 options.mode = Mode::Original;
@@ -64,6 +68,8 @@ impl Options {
             "--marked" => self.marked = number()?,
             "--seconds" => self.seconds = Some(number()?),
             "--show" => self.mode = Mode::Show(number()?),
+            "--show-opb" => self.mode = Mode::ShowOpb(number()?),
+            "--opb" => self.opb = Some(value.into()),
             "--file" => self.mode = Mode::File(value.into()),
             "--write-fixed-list" => self.mode = Mode::WriteFixedList(value.into()),
             "--check-fixed-list" => self.mode = Mode::CheckFixedList(value.into()),

@@ -1,6 +1,8 @@
-//! Makes a text smaller while it still fails.
+//! Makes a text smaller while it still fails, or a pair of texts.
 
 use crate::damage::tokens;
+use crate::opb_damage;
+use crate::pair::Pair;
 use std::time::{Duration, Instant};
 
 /// How long it may take.
@@ -38,6 +40,50 @@ pub fn shrunk(text: &[u8], fails: &mut dyn FnMut(&[u8]) -> bool) -> Vec<u8> {
             return shrinker.text;
         }
     }
+}
+
+/// A smaller OPB text that fails as well.
+fn shrunk_opb(text: &[u8], fails: &mut dyn FnMut(&[u8]) -> bool) -> Vec<u8> {
+    let mut shrinker = Shrinker { text: text.to_vec(), fails, start: Instant::now() };
+    loop {
+        let before = shrinker.text.clone();
+        shrinker.drop_pieces(|text| behind_each(text, b';'));
+        shrinker.drop_pieces(|text| behind_each(text, b'\n'));
+        shrinker.drop_pieces(opb_damage::tokens);
+        shrinker.simplify_opb_words();
+        if shrinker.text.len() <= SMALL {
+            shrinker.drop_pieces(|text| text.iter().map(|byte| vec![*byte]).collect());
+        }
+        if shrinker.text == before || shrinker.is_over() {
+            return shrinker.text;
+        }
+    }
+}
+
+/// A smaller pair that fails as well; without an OPB text where that is enough.
+pub fn shrunk_pair(pair: &Pair, fails: &mut dyn FnMut(&Pair) -> bool) -> Pair {
+    let mut smallest = pair.clone();
+    let alone = Pair::alone(pair.text.clone());
+    if smallest.opb.is_some() && fails(&alone) {
+        smallest = alone;
+    }
+    loop {
+        let before = smallest.clone();
+        if let Some(opb) = &before.opb {
+            let text = &before.text;
+            smallest.opb = Some(shrunk_opb(opb, &mut |opb| fails(&Pair::behind(opb.to_vec(), text.clone()))));
+        }
+        let opb = smallest.opb.clone();
+        smallest.text = shrunk(&before.text, &mut |text| fails(&Pair { opb: opb.clone(), text: text.to_vec() }));
+        if smallest == before || smallest.opb.is_none() {
+            return smallest;
+        }
+    }
+}
+
+/// The text cut behind each of these bytes.
+fn behind_each(text: &[u8], end: u8) -> Vec<Vec<u8>> {
+    text.split_inclusive(|byte| *byte == end).map(<[u8]>::to_vec).collect()
 }
 
 /// The text cut behind each bracket that closes a command.
@@ -223,6 +269,24 @@ impl Shrinker<'_> {
         }
     }
 
+    /// Write simpler words of an OPB text: small numbers, short variables.
+    fn simplify_opb_words(&mut self) {
+        for simpler in ["0", "1", "-1", "x1", "~x1", "x2"] {
+            let mut place = 0;
+            while !self.is_over() {
+                let mut parts = opb_damage::tokens(&self.text);
+                let Some(part) = parts.get_mut(place) else { break };
+                let word = part.trim_ascii();
+                let blanks = part.len() - part.trim_ascii_start().len();
+                if (word.len(), word) > (simpler.len(), simpler.as_bytes()) {
+                    *part = [&part[..blanks], simpler.as_bytes()].concat();
+                    self.take(parts.concat());
+                }
+                place += 1;
+            }
+        }
+    }
+
     /// All places of the word at once, else this one.
     fn replace_word(&mut self, parts: &[Vec<u8>], place: usize, simpler: &str) -> bool {
         let word = parts[place].trim_ascii();
@@ -255,7 +319,8 @@ fn is_simpler(simpler: &[u8], part: &[u8]) -> bool {
 
 #[cfg(test)]
 mod tests {
-    use super::shrunk;
+    use super::{shrunk, shrunk_pair};
+    use crate::pair::Pair;
 
     fn holds(text: &[u8], word: &str) -> bool {
         String::from_utf8_lossy(text).contains(word)
@@ -266,6 +331,15 @@ mod tests {
         let text = b"(assume a (>= (+ x y) 7))\n(step b (cl (>= 0\t55)) :rule cp_part :premises (a))\n(assume c x)";
         assert_eq!(shrunk(text, &mut |text| holds(text, "55")), b"55");
         assert_eq!(shrunk(text, &mut |_| true), b"");
+    }
+
+    #[test]
+    fn both_texts_of_a_pair_are_shrunk() {
+        let opb = b"* a header\n+12 x13 -2 ~x2 >= 1 ;\n3 x3 = 3 ;\n1 x1 >= 77 ;".to_vec();
+        let pair = Pair::behind(opb, b"(assume a (>= (+ x y) 7))\n(assume c x)".to_vec());
+        let small = shrunk_pair(&pair, &mut |pair| holds(pair.constraints(), "77") && holds(&pair.text, "7"));
+        assert_eq!(small, Pair::behind(b"77".to_vec(), b"7".to_vec()));
+        assert_eq!(shrunk_pair(&pair, &mut |pair| holds(&pair.text, "7")), Pair::alone(b"7".to_vec()));
     }
 
     #[test]

@@ -3,11 +3,20 @@
 use crate::damage;
 use crate::generate::Maker;
 use crate::limits;
+use crate::models;
+use crate::opb_damage;
+use crate::opb_limits;
+use crate::pair::Pair;
 use crate::random::Random;
 
-/// Kinds of texts, for counting.
-pub const KINDS: [&str; 9] =
-    ["proofs", "chains", "refutations", "faults", "statements", "long proofs", "damaged", "raw bytes", "limits"];
+/// Kinds of texts and of pairs, for counting.
+pub const KINDS: [&str; 14] = [
+    "proofs", "chains", "refutations", "faults", "statements", "long proofs", "damaged", "raw bytes", "limits", "models",
+    "damaged OPB texts", "damaged proofs behind them", "raw OPB texts", "limits of both",
+];
+
+/// One index in so many has a pair.
+const PAIRS: u64 = 4;
 
 const PROOF: usize = 0;
 const CHAIN: usize = 1;
@@ -17,11 +26,19 @@ const STATEMENTS: usize = 4;
 const LONG: usize = 5;
 const DAMAGED: usize = 6;
 const RAW: usize = 7;
-const LIMIT: usize = 8;
+pub const LIMIT: usize = 8;
+const MODEL: usize = 9;
+const DAMAGED_OPB: usize = 10;
+const DAMAGED_BEHIND: usize = 11;
+const RAW_OPB: usize = 12;
+pub const OPB_LIMIT: usize = 13;
 
-/// The text of an index, and its kind.
-pub fn text(seed: u64, index: u64) -> (usize, Vec<u8>) {
+/// What an index has, and its kind: a text, or a pair of texts.
+pub fn text(seed: u64, index: u64) -> (usize, Pair) {
     let mut random = Random::new(seed, index);
+    if index % PAIRS == PAIRS - 1 {
+        return pair(&mut random);
+    }
     let kind = match random.below(1000) {
         0..=349 => PROOF,
         350..=549 => CHAIN,
@@ -33,7 +50,50 @@ pub fn text(seed: u64, index: u64) -> (usize, Vec<u8>) {
         968..=997 => RAW,
         _ => LIMIT,
     };
-    (kind, of_kind(kind, &mut random))
+    (kind, Pair::alone(of_kind(kind, &mut random)))
+}
+
+/// A pair, and its kind.
+fn pair(random: &mut Random) -> (usize, Pair) {
+    let kind = match random.below(1000) {
+        0..=559 => MODEL,
+        560..=789 => DAMAGED_OPB,
+        790..=889 => DAMAGED_BEHIND,
+        890..=989 => RAW_OPB,
+        _ => OPB_LIMIT,
+    };
+    let pair = match kind {
+        RAW_OPB => Pair::behind(opb_damage::raw(random), if random.chance(70) { Vec::new() } else { model(random).text }),
+        OPB_LIMIT => {
+            let Pair { opb, text } = opb_limits::any(random);
+            let opb = opb.map(|opb| if random.chance(15) { opb_damage::damaged(&opb, random) } else { opb });
+            Pair { opb, text }
+        }
+        _ => {
+            let Pair { opb, text } = model(random);
+            match kind {
+                DAMAGED_OPB => Pair { opb: opb.map(|opb| opb_damage::damaged(&opb, random)), text },
+                DAMAGED_BEHIND => Pair { opb, text: damage::damaged(&text, random) },
+                _ => Pair { opb, text },
+            }
+        }
+    };
+    (kind, pair)
+}
+
+/// An OPB text with a proof behind it.
+fn model(random: &mut Random) -> Pair {
+    let kind = *random.one(&[PROOF, PROOF, PROOF, CHAIN, REFUTATION, REFUTATION, FAULTS, STATEMENTS]);
+    let count = *random.one(&[0, 1, 1, 2, 2, 3, 4, 12]);
+    let kind = if random.chance(1) { LONG } else { kind };
+    let mut maker = Maker::with_names(random, &models::POOL);
+    if kind == REFUTATION {
+        maker.refutation();
+    } else {
+        maker.model(count);
+        fill(kind, &mut maker);
+    }
+    maker.pair()
 }
 
 fn of_kind(kind: usize, random: &mut Random) -> Vec<u8> {
@@ -48,6 +108,12 @@ fn of_kind(kind: usize, random: &mut Random) -> Vec<u8> {
         _ => (),
     }
     let mut maker = Maker::new(random);
+    fill(kind, &mut maker);
+    maker.text()
+}
+
+/// Make the commands of a kind.
+fn fill(kind: usize, maker: &mut Maker) {
     match kind {
         PROOF => {
             let steps = 1 + maker.random.below(4);
@@ -68,7 +134,6 @@ fn of_kind(kind: usize, random: &mut Random) -> Vec<u8> {
             maker.proof(steps, 20);
         }
     }
-    maker.text()
 }
 
 fn maybe_damaged(text: Vec<u8>, random: &mut Random) -> Vec<u8> {

@@ -14,6 +14,8 @@ pub struct Command {
     pub arguments: Vec<Term>,
     /// Whether it was changed after it had been made to be accepted.
     pub missed: bool,
+    /// Whether it stands in the OPB text, as a constraint.
+    pub given: bool,
 }
 
 /// How blanks are chosen.
@@ -30,7 +32,7 @@ struct Writer<'r> {
     text: Vec<u8>,
 }
 
-/// The text of the commands.
+/// The text of the commands, without those that stand in the OPB text.
 pub fn written(commands: &[Command], random: &mut Random) -> Vec<u8> {
     let layout = match random.below(12) {
         0 => Layout::Odd,
@@ -38,7 +40,7 @@ pub fn written(commands: &[Command], random: &mut Random) -> Vec<u8> {
         _ => Layout::Usual,
     };
     let mut writer = Writer { random, layout, text: Vec::with_capacity(96 * commands.len()) };
-    for command in commands {
+    for command in commands.iter().filter(|command| !command.given) {
         writer.command(command, commands);
     }
     writer.text

@@ -7,24 +7,24 @@ use crate::ast::{Constant, Operator, Pool, Rc, Term};
 use std::collections::HashMap;
 
 /// The most bytes of a text.
-const MOST_BYTES: usize = 32_768;
+pub(crate) const MOST_BYTES: usize = 32_768;
 /// The most nodes: numerals, variables, applications and cited premises.
-const MOST_NODES: usize = 4_096;
+pub(crate) const MOST_NODES: usize = 4_096;
 /// The deepest level of a term.
 const MOST_DEPTH: usize = 64;
 /// The most commands.
-const MOST_COMMANDS: usize = 512;
+pub(crate) const MOST_COMMANDS: usize = 512;
 /// The longest name.
-const MOST_NAME: usize = 32;
+pub(crate) const MOST_NAME: usize = 32;
 /// The most digits of a numeral: 99999999 is the largest.
 const MOST_DIGITS: usize = 8;
 
 /// Why a text is not read.
 #[derive(Debug, Clone, Copy, PartialEq, Eq)]
 pub struct Refusal {
-    /// Document 01's number, 2 to 8.
+    /// Document 01's number, 2 to 8, or document 02's.
     pub number: u8,
-    /// Where the offence begins.
+    /// Where the offence begins, in its own text.
     pub byte: usize,
 }
 
@@ -102,10 +102,16 @@ pub struct Command {
 
 /// Reads a text into commands whose terms are in the pool.
 pub fn read(pool: &mut Pool, text: &[u8]) -> Result<Vec<Command>, Refusal> {
+    read_behind(pool, &[], 0, text)
+}
+
+/// Reads a text behind commands with so many nodes into these and its own. It may cite them, and they count in its limits.
+pub(crate) fn read_behind(pool: &mut Pool, before: &[Command], nodes: usize, text: &[u8]) -> Result<Vec<Command>, Refusal> {
     if text.len() > MOST_BYTES {
         return Err(Refusal { number: 2, byte: MOST_BYTES });
     }
-    Reader { tokens: Tokens { text, next: 0 }, pool, nodes: 0, ids: HashMap::new(), variables: HashMap::new() }.file()
+    let ids = before.iter().enumerate().map(|(place, command)| (command.id.as_str(), place)).collect();
+    Reader { tokens: Tokens { text, next: 0 }, pool, nodes, ids, variables: HashMap::new() }.file(before.to_vec())
 }
 
 /// A token and where it begins.
@@ -243,9 +249,8 @@ struct Reader<'t, 'p> {
 }
 
 impl<'t> Reader<'t, '_> {
-    /// All commands up to the end.
-    fn file(mut self) -> Result<Vec<Command>, Refusal> {
-        let mut commands = Vec::new();
+    /// The commands before the text, and all of its own up to the end.
+    fn file(mut self, mut commands: Vec<Command>) -> Result<Vec<Command>, Refusal> {
         loop {
             let token = self.tokens.take()?;
             match token.kind {

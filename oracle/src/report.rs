@@ -3,7 +3,8 @@
 use crate::answer::{ACCEPTED, answer};
 use crate::ast::Pool;
 use crate::marks::{is_contradiction, is_plain, is_statement};
-use crate::reader::{Command, Refusal, Rule, read};
+use crate::opb::{Constraint, assumptions, read_opb};
+use crate::reader::{Command, Refusal, Rule, read_behind};
 use std::fmt::Write;
 
 /// What is said of a text that was read.
@@ -30,8 +31,16 @@ pub struct Line {
 
 /// The account of a text, or why it is not read.
 pub fn account(text: &[u8]) -> Result<Account, Refusal> {
+    account_both(b"", text)
+}
+
+/// The account of an OPB text and the proof text behind it, or why one of them is not read. The OPB text is judged first.
+pub fn account_both(opb: &[u8], text: &[u8]) -> Result<Account, Refusal> {
+    let constraints = read_opb(opb)?;
     let mut pool = Pool::new();
-    let commands = read(&mut pool, text)?;
+    let before = assumptions(&mut pool, &constraints);
+    let nodes = constraints.iter().map(Constraint::nodes).sum();
+    let commands = read_behind(&mut pool, &before, nodes, text)?;
     let mut lines = Vec::with_capacity(commands.len());
     for (place, command) in commands.iter().enumerate() {
         let line = line(&mut pool, command, &commands[..place], &lines);
@@ -54,7 +63,12 @@ fn line(pool: &mut Pool, command: &Command, above: &[Command], lines: &[Line]) -
 
 /// The report of a text, for a caller with room enough for it: refusal 1 is not given here.
 pub fn report(text: &[u8]) -> Vec<u8> {
-    match account(text) {
+    report_both(b"", text)
+}
+
+/// The report of an OPB text and the proof text behind it, for the same caller.
+pub fn report_both(opb: &[u8], text: &[u8]) -> Vec<u8> {
+    match account_both(opb, text) {
         Ok(account) => account.written(),
         Err(Refusal { number, byte }) => format!("refused={number} byte={byte}\n"),
     }

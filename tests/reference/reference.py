@@ -157,14 +157,16 @@ class Reader:
     """Reads a text token by token, so that the leftmost offence is met first.
 
     At one token 3, 4 and 5 are met in `peek`, 6 in `take`, then 7 and then 8 by the caller; only
-    then is the next token looked at.
+    then is the next token looked at. Commands that stand before the text may be cited in it, and
+    count in its limits.
     """
 
-    def __init__(self, text):
+    def __init__(self, text, before=()):
         self.text = text
         self.token = token_at(text, 0)
-        self.nodes = 0
-        self.ids = set()
+        self.before = list(before)
+        self.nodes = sum(count_nodes(term) for command in before for term in command.clause)
+        self.ids = {command.id for command in before}
 
     def peek(self):
         """The token at hand, refused when it is a bad byte or a bad word."""
@@ -187,8 +189,8 @@ class Reader:
             raise Refusal(OVER_LIMIT, token.offset)
 
     def file(self):
-        """command*"""
-        commands = []
+        """command*, behind those that stand before"""
+        commands = list(self.before)
         while self.peek().kind != END:
             start = self.take("(")
             if len(commands) == MAX_COMMANDS:
@@ -283,11 +285,16 @@ class Reader:
         return Application(operator, tuple([first] + self.terms_to_bracket(level + 1)))
 
 
-def read(text):
-    """The commands of a text, or its refusal."""
+def count_nodes(term):
+    """The nodes of a term: an application is one, besides its arguments'."""
+    return 1 + sum(map(count_nodes, term.arguments)) if isinstance(term, Application) else 1
+
+
+def read(text, before=()):
+    """The commands of a text behind the assumptions that stand before it, all in one list, or its refusal."""
     if len(text) > MAX_TEXT_BYTES:
         raise Refusal(TEXT_TOO_LONG, MAX_TEXT_BYTES)
-    return Reader(text).file()
+    return Reader(text, before).file()
 
 
 # ---------------------------------------------------------------- patterns (section 2, `match_term!`)
@@ -780,12 +787,8 @@ def written(line):
         yes_or_no(line.plain), yes_or_no(line.holds))
 
 
-def report(text):
-    """The report of a text, all of it bytes."""
-    try:
-        commands = read(text)
-    except Refusal as refusal:
-        return b"refused=%d byte=%d\n" % (refusal.number, refusal.offset)
+def report_of(commands):
+    """The report of commands that were read, all of it bytes."""
     lines = {}
     for command in commands:
         lines[command.id] = line_of(command, lines)
@@ -793,6 +796,19 @@ def report(text):
     totals = "commands=%d refused=%d refuted=%s\n" % (
         len(lines), refused, yes_or_no(any(map(is_refutation, lines.values()))))
     return ("".join(map(written, lines.values())) + totals).encode("ascii")
+
+
+def refusal_line(refusal):
+    """The report of a file that is refused."""
+    return b"refused=%d byte=%d\n" % (refusal.number, refusal.offset)
+
+
+def report(text):
+    """The report of a text."""
+    try:
+        return report_of(read(text))
+    except Refusal as refusal:
+        return refusal_line(refusal)
 
 
 if __name__ == "__main__":

@@ -5,7 +5,8 @@ reads a text or checks a step; `reports.py` holds each report to the independent
 """
 from collections import namedtuple
 
-Vector = namedtuple("Vector", "name text report quoted")
+# `opb` is the OPB text before the text, where there is one.
+Vector = namedtuple("Vector", "name text report quoted opb", defaults=(None,))
 # A command's text and the end of its line in the report, from ` rule=` on.
 Command = namedtuple("Command", "id text line accepted")
 

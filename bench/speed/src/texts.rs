@@ -8,6 +8,13 @@ pub struct Text {
     pub bytes: Vec<u8>,
 }
 
+/// An OPB text, the proof text behind it, and what they are.
+pub struct Pair {
+    pub name: &'static str,
+    pub opb: Vec<u8>,
+    pub proof: Vec<u8>,
+}
+
 fn text(name: &'static str, content: String) -> Text {
     Text { name, bytes: content.into_bytes() }
 }
@@ -95,5 +102,105 @@ pub fn all() -> Vec<Text> {
         text("names of 32 bytes, all different", multiplication(380, 380, long_name)),
         text("small steps, refused at the end", small_steps(32_766) + "("),
         text("sums, refused at the end", multiplication(512, 16, |i| format!("v{i}")) + ";"),
+    ]
+}
+
+/// A constraint over five of forty variables, the last one negated: coefficients, names, and the constant.
+struct Constraint {
+    summands: Vec<(usize, String)>,
+    constant: usize,
+}
+
+impl Constraint {
+    /// The one with a number; every number and name as it is written by these.
+    fn new(number: usize, coefficient: impl Fn(usize) -> usize, name: impl Fn(usize) -> String) -> Constraint {
+        let summands = (0..5).map(|i| (coefficient((number + i) % 7 + 1), name((number * 3 + i * i) % 40 + 1))).collect();
+        Constraint { summands, constant: coefficient(2) }
+    }
+
+    /// How an OPB text has it, with `>=` or `=`.
+    fn opb(&self, relation: &str) -> String {
+        let mut out = String::new();
+        for (place, (coefficient, name)) in self.summands.iter().enumerate() {
+            let negation = if place == 4 { "~" } else { "" };
+            write!(out, "+{coefficient} {negation}{name} ").expect("a string takes what is written");
+        }
+        format!("{out}{relation} {} ;\n", self.constant)
+    }
+
+    /// The inequality times a factor, as a proof text has it.
+    fn times(&self, factor: usize) -> String {
+        let literal = |place: usize, name: &str| if place == 4 { format!("(- 1 {name})") } else { name.to_string() };
+        let summands = self.summands.iter().enumerate();
+        let total = sum(summands.map(|(place, (coefficient, name))| (coefficient * factor, literal(place, name))));
+        format!("(>= {total} {})", self.constant * factor)
+    }
+}
+
+/// Constraints with small numbers over x1 to x40.
+fn small_constraint(number: usize) -> Constraint {
+    Constraint::new(number, |k| k, |v| format!("x{v}"))
+}
+
+/// Lines up to so many bytes.
+fn up_to(bytes: usize, line: impl Fn(usize) -> String) -> String {
+    let mut out = String::new();
+    for number in 0.. {
+        let line = line(number);
+        if out.len() + line.len() > bytes {
+            break;
+        }
+        out += &line;
+    }
+    out
+}
+
+/// A model of small constraints up to so many bytes.
+fn model(bytes: usize) -> String {
+    up_to(bytes, |number| small_constraint(number).opb(">="))
+}
+
+/// The same with the competitions' first line and a long comment before each constraint.
+fn commented_model(bytes: usize) -> String {
+    let comment = |number| format!("* constraint {number}: {}\n", "capacity of a machine, by the hour; ".repeat(6));
+    let lines = up_to(bytes - 40, |number| comment(number) + &small_constraint(number).opb(">="));
+    format!("* #variable= 40 #constraint= {}\n{lines}", lines.lines().count() / 2)
+}
+
+/// A model whose numbers have 8 digits and whose names have 18, so that 32 KB have no more than 4,096 nodes.
+fn wide_model(bytes: usize) -> String {
+    let constraint = |number| Constraint::new(number, |k| 12_345_678 + k, |v| format!("x{}", 100_000_000_000_000_000 + v));
+    up_to(bytes, |number| constraint(number).opb(">="))
+}
+
+/// A proof behind small constraints, up to so many bytes: the first forty in turn, each twice and three times.
+fn steps_behind(bytes: usize) -> String {
+    up_to(bytes, |step| {
+        let place = step / 2 % 40;
+        let (number, constraint) = (place + 1, small_constraint(place));
+        let (clause, rule) = match step % 2 {
+            0 => (constraint.times(2), format!("cp_multiplication :premises (c{number}) :args (2)")),
+            _ => (constraint.times(3), format!("cp_addition :premises (s{} c{number})", step - 1)),
+        };
+        format!("(step s{step} (cl {clause}) :rule {rule})\n")
+    })
+}
+
+/// All pairs of an OPB text and a proof text.
+pub fn pairs() -> Vec<Pair> {
+    let pair = |name, opb: String, proof: String| Pair { name, opb: opb.into_bytes(), proof: proof.into_bytes() };
+    let alone = |name, opb| pair(name, opb, String::new());
+    vec![
+        alone("two empty texts", String::new()),
+        alone("a model, 2 KB", model(2_048)),
+        alone("a model of equalities, 2 KB", up_to(2_048, |number| small_constraint(number).opb("="))),
+        alone("a model of 4,080 nodes", (0..204).map(|number| small_constraint(number).opb(">=")).collect()),
+        alone("a model with comments, 32 KB", commented_model(32_768)),
+        alone("a model of long words, 32 KB", wide_model(32_768)),
+        alone("a model of long words, refused at the end", wide_model(32_766) + "+1"),
+        pair("a model of 2 KB, a proof of 2 KB", model(2_048), steps_behind(2_048)),
+        pair("a model of 2 KB, a proof of 16 KB", model(2_048), steps_behind(16_384)),
+        pair("a model with comments, 32 KB, a proof of 8 KB", commented_model(32_768), steps_behind(8_192)),
+        pair("no model, small steps, 32 KB", String::new(), small_steps(32_768)),
     ]
 }

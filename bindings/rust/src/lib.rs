@@ -1,4 +1,5 @@
-//! Checks a cutting-planes proof: a text of assumptions and steps in, a report with a line for each and totals out.
+//! Checks a cutting-planes proof: a text of assumptions and steps in, a report with a line for each and totals out. The constraints
+//! can also come from an OPB text, with the proof text behind it.
 //!
 //! The work is done by a library in which every function is proved. This wrapper lends it slices and trusts it for nothing else
 //! than its own types: the returned length is looked up in the report, and never assumed.
@@ -7,11 +8,13 @@
 //! let mut checker = cutting_planes::Checker::new();
 //! let report = checker.check_text(b"(assume a (>= 0 1))");
 //! assert!(report.ends_with(b"refuted=yes\n"));
+//! let report = checker.check_opb(b"+1 x1 >= 1 ; +1 ~x1 >= 1 ;", b"(step s (cl (>= 0 1)) :rule cp_addition :premises (c1 c2))");
+//! assert!(report.ends_with(b"refuted=yes\n"));
 //! ```
 
 use std::fmt;
 
-/// The longest text in bytes. A longer one is reported as `refused=2 byte=32768`.
+/// The longest text in bytes, of either kind. A longer one is reported as `refused=2 byte=32768`.
 pub const TEXT_BYTES: usize = 32_768;
 
 /// The fewest words that a node table has.
@@ -23,6 +26,17 @@ pub const REPORT_BYTES: usize = 65_536;
 extern "C" {
     // Each slice is a pointer and a length.
     fn cutting_planes_check(
+        text: *const u8,
+        text_length: usize,
+        nodes: *mut u32,
+        nodes_length: usize,
+        report: *mut u8,
+        report_length: usize,
+    ) -> usize;
+
+    fn cutting_planes_check_opb(
+        opb: *const u8,
+        opb_length: usize,
         text: *const u8,
         text_length: usize,
         nodes: *mut u32,
@@ -53,6 +67,32 @@ pub fn check<'r>(text: &[u8], nodes: &mut [u32], report: &'r mut [u8]) -> Result
     let length = unsafe {
         cutting_planes_check(text.as_ptr(), text.len(), nodes.as_mut_ptr(), nodes.len(), report.as_mut_ptr(), report.len())
     };
+    written(length, report)
+}
+
+/// The report of an OPB text and the proof text behind it, at the front of the lent report, as [`check`] writes it.
+///
+/// The constraints become assumptions with the ids c1, c2 and so on, which the proof text may cite; an `=` becomes two. With an empty
+/// OPB text the report is that of the proof text alone. A refusal's byte counts in the text that is refused; the OPB text is judged first.
+pub fn check_opb<'r>(opb: &[u8], text: &[u8], nodes: &mut [u32], report: &'r mut [u8]) -> Result<&'r [u8], TooSmall> {
+    // Safety: as above. The two texts are only read, so they may be the same bytes.
+    let length = unsafe {
+        cutting_planes_check_opb(
+            opb.as_ptr(),
+            opb.len(),
+            text.as_ptr(),
+            text.len(),
+            nodes.as_mut_ptr(),
+            nodes.len(),
+            report.as_mut_ptr(),
+            report.len(),
+        )
+    };
+    written(length, report)
+}
+
+/// What a call wrote, by the length that it returned.
+fn written(length: usize, report: &[u8]) -> Result<&[u8], TooSmall> {
     match length {
         0 => Err(TooSmall),
         _ => Ok(&report[..length]),
@@ -74,6 +114,11 @@ impl Checker {
     /// The report of a text; it stands until the next call.
     pub fn check_text(&mut self, text: &[u8]) -> &[u8] {
         check(text, &mut self.nodes, &mut self.report).expect("the tables have the sizes that the library asks for")
+    }
+
+    /// The report of an OPB text and the proof text behind it; it stands until the next call.
+    pub fn check_opb(&mut self, opb: &[u8], text: &[u8]) -> &[u8] {
+        check_opb(opb, text, &mut self.nodes, &mut self.report).expect("the tables have the sizes that the library asks for")
     }
 }
 

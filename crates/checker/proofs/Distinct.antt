@@ -11,11 +11,14 @@ use Rattle.calculus.specs.Terms.{Command, assume, step, idOf, sameName}
 use Rattle.calculus.specs.Writing.{known, allowed, allowedBehind}
 use Rattle.calculus.proofs.Booleans.{and-l, and-r, and-mk, is-false}
 use Rattle.theorems.proofs.FaithfulFile.{faithful}
+use Rattle.theorems.proofs.OpbIds.{both-limits}
+use Rattle.theorems.proofs.OpbSoundness.{both-faithful}
 use Rattle.nodes.proofs.Tables.{by-node}
 use Rattle.reader.specs.Commands.{commandOf, commandsOf}
 use Rattle.reader.specs.Reading.{ReadsFile}
 use Rattle.reader.specs.declared.Whole.{Whole}
 use Rattle.reader.specs.declared.Whole.the-variants.{All}
+use Rattle.opb_reader.specs.Reading.{BothIs}
 use Rattle.reader.proofs.Words.{command-id, commands-long, commands-named}
 use Rattle.terms.specs.Spans.{stringAt}
 use Rattle.terms.proofs.Places.{strings-at}
@@ -77,4 +80,19 @@ file-of s t u w x r k n c h e =
       named = named;
       commands = commands;
       distinct = apart s u x k (faithful s (commandsOf s u x k) read .limits .allowed);
+    }
+
+-- so does what is published of both texts
+pub file-both : (o s j u x : List ℕ) (r : Whole) (k n c : ℕ) → BothIs o s j u x r → r ≡ All k n c → File j u x k
+file-both o s j u x r k n c h e =
+    let (read, table, firsts, named, commands) = subst (BothIs o s j u x) e h in
+    let (ks, cs, p, q, same) = both-faithful o s (commandsOf j u x k) read in
+    record {
+      nodes = n;
+      children = c;
+      table = table;
+      firsts = firsts;
+      named = named;
+      commands = commands;
+      distinct = apart j u x k (subst (λ (ds : List Command). T (allowedBehind [] ds)) (sym same) (both-limits o s ks cs p q .allowed));
     }

@@ -3,3 +3,4 @@ pub mod Distinct
 pub mod Lining
 pub mod Marking
 pub mod Reporting
+pub mod Joining

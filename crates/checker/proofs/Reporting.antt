@@ -4,19 +4,26 @@ use mathlib.Core.Bool.{Bool, true, false, cond, _&&_}
 use mathlib.Core.List.{List, [], map}
 use Prim.Native.Nat.{ℕ, zero, suc, _≤_, _<_}
 use native.Mathlib.Omega.{arith}
+use borrow.Author.Tests.{lt-leb}
 use lib.Dec.{leb, le→leb, leb→le, not-T}
 use lib.ListN.{length, getD}
 use Rattle.calculus.specs.Claim.{Sound}
 use Rattle.calculus.specs.Marks.{Line, lineOf}
+use Rattle.calculus.specs.OpbClaim.{SoundBoth}
+use Rattle.calculus.specs.OpbReading.{readOpb}
+use Rattle.calculus.specs.OpbReport.{onOpb, readBoth, reportBoth, writtenBoth}
 use Rattle.calculus.specs.Report.{minReport, minTable, reportLines, reportOf, reportRead, refusalText, written}
 use Rattle.calculus.specs.Terms.{Term}
+use Rattle.calculus.specs.Writing.{maxText}
 use Rattle.calculus.proofs.Booleans.{is-true, is-false}
+use Rattle.theorems.proofs.OpbSoundness.{sound-both-written}
 use Rattle.theorems.proofs.Soundness.{sound-written}
 use Rattle.nodes.specs.Nodes.{decode}
 use Rattle.reader.specs.Commands.{allWords, wordAt, kindWord, clauseWord, premisesWord, argumentsWord, partAt, commandAs, commandOf}
 use Rattle.reader.specs.Reading.{ReadsFile}
 use Rattle.reader.specs.declared.Whole.{Whole}
 use Rattle.reader.specs.declared.Whole.the-variants.{All, Refused, Small}
+use Rattle.opb_reader.specs.Reading.{BothIs}
 use Rattle.report.specs.Lines.{nameOf, LineHas, LinesAre, Printable}
 use Rattle.report.specs.Written.{Wrote}
 use Rattle.terms.specs.Spans.{stringAt}
@@ -72,26 +79,73 @@ module _ (s t u w x : List ℕ) (r : Whole) (R : ReadsFile s t u w x r) where
   pub report-small : r ≡ Small → minTable ≤ length t → allWords ≤ length w → {A : Type 0} → A
   report-small q a b {A} = absurd (subst (ReadsFile s t u w x) q R .0 a b)
 
--- ---- what a call writes
+-- ---- the report of both texts, by what the reader answers
+module _ (o s j u x : List ℕ) (r : Whole) (R : BothIs o s j u x r) where
+  pub both-report : (k n c : ℕ) → r ≡ All k n c → {d e : List ℕ} {m : ℕ} → Wrote d 0 (reportLines (commandLines j u x k)) e m → Wrote d 0 (reportBoth o s) e m
+  unfolding reportBoth reportRead commandLines
+  both-report k n c q {d} {e} {m} W = subst (λ (z : List ℕ). Wrote d 0 z e m) (sym (ap reportRead (subst (BothIs o s j u x) q R .0))) W
+
+  pub both-refusal : (number byte : ℕ) → r ≡ Refused number byte → {d e : List ℕ} {m : ℕ} → Wrote d 0 (refusalText number byte) e m → Wrote d 0 (reportBoth o s) e m
+  unfolding reportBoth reportRead
+  both-refusal number byte q {d} {e} {m} W = subst (λ (z : List ℕ). Wrote d 0 z e m) (sym (ap reportRead (subst (BothIs o s j u x) q R))) W
+
+  pub both-never-small : r ≡ Small → {A : Type 0} → A
+  both-never-small q {A} = absurd (subst (BothIs o s j u x) q R)
+
+-- an OPB text of more than 32,768 bytes
+pub opb-long : (o s : List ℕ) → maxText < length o → {d e : List ℕ} {m : ℕ} → Wrote d 0 (refusalText 2 maxText) e m → Wrote d 0 (reportBoth o s) e m
+unfolding reportBoth readBoth onOpb readOpb reportRead
+opb-long o s h {d} {e} {m} W = rw (lt-leb (length o) maxText h) W
+
+-- ---- what a call writes, where its report is x
+abbrev lent : ℕ → ℕ → List ℕ → List ℕ
+lent r n x = cond (leb minReport r && leb minTable n) x []
+
 -- enough was lent
-pub written-enough : (r n : ℕ) (s : List ℕ) → minReport ≤ r → minTable ≤ n → written r n s ≡ reportOf s
-unfolding written
-written-enough r n s a b = ap₂ (λ (x y : Bool). cond (x && y) (reportOf s) []) (is-true (leb minReport r) (le→leb minReport r a)) (is-true (leb minTable n) (le→leb minTable n b))
+lent-enough : (r n : ℕ) (x : List ℕ) → minReport ≤ r → minTable ≤ n → lent r n x ≡ x
+lent-enough r n x a b = ap₂ (λ (c d : Bool). cond (c && d) x []) (is-true (leb minReport r) (le→leb minReport r a)) (is-true (leb minTable n) (le→leb minTable n b))
 
 -- the report is too small
-pub written-report : (r n : ℕ) (s : List ℕ) → r < minReport → written r n s ≡ []
-unfolding written
-written-report r n s h = ap (λ (x : Bool). cond (x && leb minTable n) (reportOf s) []) (is-false (leb minReport r) (not-T (leb minReport r) (λ k. let e : minReport ≤ r = leb→le minReport r k in omega arith)))
+lent-report : (r n : ℕ) (x : List ℕ) → r < minReport → lent r n x ≡ []
+lent-report r n x h = ap (λ (c : Bool). cond (c && leb minTable n) x []) (is-false (leb minReport r) (not-T (leb minReport r) (λ k. let e : minReport ≤ r = leb→le minReport r k in omega arith)))
 
 -- the node table is too small
+lent-table : (r n : ℕ) (x : List ℕ) → n < minTable → lent r n x ≡ []
+lent-table r n x h = go (leb minReport r) (is-false (leb minTable n) (not-T (leb minTable n) (λ k. let e : minTable ≤ n = leb→le minTable n k in omega arith)))
+  where
+    go : (b : Bool) → leb minTable n ≡ false → cond (b && leb minTable n) x [] ≡ []
+    go true e = ap (λ (c : Bool). cond c x []) e
+    go false e = refl
+
+-- of a text
+pub written-enough : (r n : ℕ) (s : List ℕ) → minReport ≤ r → minTable ≤ n → written r n s ≡ reportOf s
+unfolding written
+written-enough r n s = lent-enough r n (reportOf s)
+
+pub written-report : (r n : ℕ) (s : List ℕ) → r < minReport → written r n s ≡ []
+unfolding written
+written-report r n s = lent-report r n (reportOf s)
+
 pub written-table : (r n : ℕ) (s : List ℕ) → n < minTable → written r n s ≡ []
 unfolding written
-written-table r n s h = go (leb minReport r) (is-false (leb minTable n) (not-T (leb minTable n) (λ k. let e : minTable ≤ n = leb→le minTable n k in omega arith)))
-  where
-    go : (b : Bool) → leb minTable n ≡ false → cond (b && leb minTable n) (reportOf s) [] ≡ []
-    go true e = ap (λ (x : Bool). cond x (reportOf s) []) e
-    go false e = refl
+written-table r n s = lent-table r n (reportOf s)
 
 -- its report is sound
 pub sound-report : (r n : ℕ) (s : List ℕ) {report : List ℕ} → report ≡ written r n s → Sound s report
 sound-report r n s e = subst (Sound s) (sym e) (sound-written r n s)
+
+-- of both texts
+pub both-enough : (r n : ℕ) (o s : List ℕ) → minReport ≤ r → minTable ≤ n → writtenBoth r n o s ≡ reportBoth o s
+unfolding writtenBoth
+both-enough r n o s = lent-enough r n (reportBoth o s)
+
+pub both-no-report : (r n : ℕ) (o s : List ℕ) → r < minReport → writtenBoth r n o s ≡ []
+unfolding writtenBoth
+both-no-report r n o s = lent-report r n (reportBoth o s)
+
+pub both-no-table : (r n : ℕ) (o s : List ℕ) → n < minTable → writtenBoth r n o s ≡ []
+unfolding writtenBoth
+both-no-table r n o s = lent-table r n (reportBoth o s)
+
+pub sound-both-report : (r n : ℕ) (o s : List ℕ) {report : List ℕ} → report ≡ writtenBoth r n o s → SoundBoth o s report
+sound-both-report r n o s e = subst (SoundBoth o s) (sym e) (sound-both-written r n o s)

@@ -9,10 +9,14 @@ use marks::contradiction;
 use marks::is_statement;
 use matching::Answer;
 use nodes::wide;
+use opb_reader::read_both;
 use reader::COMMAND_WORDS;
+use reader::MAX_TEXT;
 use reader::NODE_WORDS;
+use reader::TOO_LONG;
 use reader::Whole;
 use reader::read_file;
+use report::append;
 use report::write_refusal;
 use report::write_report;
 use steps::check_step;
@@ -23,15 +27,47 @@ ghost use Prim.Native.Nat.{_≤_, _<_};
 ghost use lib.ListN.{length, set, take, drop};
 ghost use Rattle.calculus.specs.Claim.{Sound};
 ghost use Rattle.calculus.specs.Marks.{numberOf, plainOf};
+ghost use Rattle.calculus.specs.OpbClaim.{SoundBoth};
+ghost use Rattle.calculus.specs.OpbReport.{reportBoth, writtenBoth};
 ghost use Rattle.calculus.specs.Report.{minReport, minTable, reportLines, reportOf, written};
+ghost use Rattle.calculus.specs.Writing.{maxText};
 ghost use Rattle.matching.specs.Matched.{answerOf};
+ghost use Rattle.opb_reader.specs.Ids.{joined};
+ghost use Rattle.opb_reader.specs.Reading.{BothReady};
 ghost use Rattle.reader.specs.Commands.{allWords};
 ghost use Rattle.report.specs.Written.{Wrote};
 ghost use Rattle.sums.specs.Places.{Rooms};
+ghost use Rattle.terms.specs.Spans.{maxJoined};
 ghost use Rattle.checker.specs.Runs.{File, Filed, commandLines, allMarked, AnswerIs, AnswersAre, HoldsIs, MarksAre, RefutesIs, RefutedIs, Cited};
 
 // The least report that a call has to be lent; of the node table the least is reader::NODE_WORDS.
 pub const REPORT_BYTES: usize = 65536;
+
+// The bytes of an OPB text, the ids of 512 assumptions and a proof text.
+const JOINED_BYTES: usize = 67476;
+
+// The ids of 512 assumptions, one after the other.
+const IDS: [u8; 1940] = *b"\
+    c1c2c3c4c5c6c7c8c9c10c11c12c13c14c15c16c17c18c19c20c21c22c23c24c25c26c27c28c29c30c31c32c33c34c35c36\
+    c37c38c39c40c41c42c43c44c45c46c47c48c49c50c51c52c53c54c55c56c57c58c59c60c61c62c63c64c65c66c67c68c69\
+    c70c71c72c73c74c75c76c77c78c79c80c81c82c83c84c85c86c87c88c89c90c91c92c93c94c95c96c97c98c99c100c101\
+    c102c103c104c105c106c107c108c109c110c111c112c113c114c115c116c117c118c119c120c121c122c123c124c125c126\
+    c127c128c129c130c131c132c133c134c135c136c137c138c139c140c141c142c143c144c145c146c147c148c149c150c151\
+    c152c153c154c155c156c157c158c159c160c161c162c163c164c165c166c167c168c169c170c171c172c173c174c175c176\
+    c177c178c179c180c181c182c183c184c185c186c187c188c189c190c191c192c193c194c195c196c197c198c199c200c201\
+    c202c203c204c205c206c207c208c209c210c211c212c213c214c215c216c217c218c219c220c221c222c223c224c225c226\
+    c227c228c229c230c231c232c233c234c235c236c237c238c239c240c241c242c243c244c245c246c247c248c249c250c251\
+    c252c253c254c255c256c257c258c259c260c261c262c263c264c265c266c267c268c269c270c271c272c273c274c275c276\
+    c277c278c279c280c281c282c283c284c285c286c287c288c289c290c291c292c293c294c295c296c297c298c299c300c301\
+    c302c303c304c305c306c307c308c309c310c311c312c313c314c315c316c317c318c319c320c321c322c323c324c325c326\
+    c327c328c329c330c331c332c333c334c335c336c337c338c339c340c341c342c343c344c345c346c347c348c349c350c351\
+    c352c353c354c355c356c357c358c359c360c361c362c363c364c365c366c367c368c369c370c371c372c373c374c375c376\
+    c377c378c379c380c381c382c383c384c385c386c387c388c389c390c391c392c393c394c395c396c397c398c399c400c401\
+    c402c403c404c405c406c407c408c409c410c411c412c413c414c415c416c417c418c419c420c421c422c423c424c425c426\
+    c427c428c429c430c431c432c433c434c435c436c437c438c439c440c441c442c443c444c445c446c447c448c449c450c451\
+    c452c453c454c455c456c457c458c459c460c461c462c463c464c465c466c467c468c469c470c471c472c473c474c475c476\
+    c477c478c479c480c481c482c483c484c485c486c487c488c489c490c491c492c493c494c495c496c497c498c499c500c501\
+    c502c503c504c505c506c507c508c509c510c511c512";
 
 // ---- answers
 // The answer of command k: an assumption is accepted, a step is answered by its rule.
@@ -251,4 +287,81 @@ pub extern "C" fn cutting_planes_check(text: &[u8], nodes: &mut [u32], report: &
     }
     let mut commands = [0u16; COMMAND_WORDS];
     report_text(text, nodes, &mut commands, report)
+}
+
+// ---- an OPB text before it
+// Writes the OPB text, the ids of 512 assumptions and the proof text one behind the other; a proof text that is too long is left out.
+fn join(string: &mut [u8], opb: &[u8], text: &[u8]) -> usize
+    requires { ⌜ (maxJoined ≤ length (now string)) × (length (now opb) ≤ maxText) ⌝ }
+    ensures { λ r. ⌜ Wrote (now (string .entry)) 0 (joined (now (opb .entry)) (now (text .entry))) (now (string .exit)) r ⌝ }
+{
+    let ids = append(string, 0, opb);
+    let start = append(string, ids, &IDS);
+    if MAX_TEXT < text.len() {
+        return start;
+    }
+    append(string, start, text)
+}
+
+// Reads an OPB text and the proof text behind it, of the string in which both stand, and writes their report.
+fn report_joined(
+    opb: &[u8],
+    text: &[u8],
+    string: &[u8],
+    nodes: &mut [u32],
+    commands: &mut [u16],
+    report: &mut [u8],
+) -> usize
+    requires { ⌜ (minReport ≤ length (now report)) × BothReady (now opb) (now text) (now string) (now nodes) (now commands) ⌝ }
+    ensures { λ r. ⌜ Wrote (now (report .entry)) 0 (reportBoth (now (opb .entry)) (now (text .entry))) (now (report .exit)) r ⌝ }
+{
+    match read_both(opb, text, string, nodes, commands) {
+        Whole::All(n, _, _) => report_file(string, nodes, commands, n, report),
+        Whole::Refused(number, byte) => write_refusal(report, number, byte),
+        Whole::Small => 0,
+    }
+}
+
+// Joins the texts and writes their report.
+fn report_both(
+    opb: &[u8],
+    text: &[u8],
+    nodes: &mut [u32],
+    commands: &mut [u16],
+    report: &mut [u8],
+) -> usize
+    requires { ⌜ (minReport ≤ length (now report)) × (minTable ≤ length (now nodes)) × (allWords ≤ length (now commands)) ⌝ }
+    ensures { λ r. ⌜ Wrote (now (report .entry)) 0 (reportBoth (now (opb .entry)) (now (text .entry))) (now (report .exit)) r ⌝ }
+{
+    if MAX_TEXT < opb.len() {
+        return write_refusal(report, TOO_LONG, MAX_TEXT);
+    }
+    let mut string = [0u8; JOINED_BYTES];
+    let size = join(&mut string, opb, text);
+    report_joined(opb, text, &string[0..size], nodes, commands, report)
+}
+
+// Checks an OPB text and the proof text behind it, as `cutting_planes_check` checks a text; with an empty OPB text it writes the same bytes.
+// No solution of the OPB text that satisfies the proof text's own assumptions that are statements falsifies a line that the report marks (02, No. 1).
+#[no_mangle]
+pub extern "C" fn cutting_planes_check_opb(
+    opb: &[u8],
+    text: &[u8],
+    nodes: &mut [u32],
+    report: &mut [u8],
+) -> usize
+    ensures { λ r. ⌜ r ≡ length (writtenBoth (length (now (report .entry))) (length (now (nodes .entry))) (now (opb .entry)) (now (text .entry))) ⌝ }
+    ensures { λ r. ⌜ take r (now (report .exit)) ≡ writtenBoth (length (now (report .entry))) (length (now (nodes .entry))) (now (opb .entry)) (now (text .entry)) ⌝ }
+    ensures { λ r. ⌜ drop r (now (report .exit)) ≡ drop r (now (report .entry)) ⌝ }
+    ensures { λ _. ⌜ ((minReport ≤ length (now (report .entry)) → minTable ≤ length (now (nodes .entry)) → ⊥) → now (nodes .exit) ≡ now (nodes .entry)) ⌝ }
+    ensures { λ r. ⌜ SoundBoth (now (opb .entry)) (now (text .entry)) (take r (now (report .exit))) ⌝ }
+{
+    if report.len() < REPORT_BYTES {
+        return 0;
+    }
+    if nodes.len() < NODE_WORDS {
+        return 0;
+    }
+    let mut commands = [0u16; COMMAND_WORDS];
+    report_both(opb, text, nodes, &mut commands, report)
 }

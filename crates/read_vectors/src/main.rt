@@ -49,7 +49,7 @@ fn put_words(words: &[u16], from: usize, to: usize)
     }
 }
 
-// A line for each of the k commands: the bytes of its id, its kind and its parts.
+// A line for each of the k commands: where its id starts and ends before the text's end, its kind and its parts.
 fn put_commands(commands: &[u16], k: usize)
     requires { ⌜ (k ≤ maxCommands) × (allWords ≤ length (now commands)) ⌝ }
 {

@@ -40,16 +40,16 @@ last-kind {n} a b c d e f g h most =
     omega arith
 
 -- ---- parts
--- a line up to its rule, from the words as they were read
-pub start-parts : {s w : List ℕ} {k : ℕ} → IdShown s w k → {from to kind : ℕ} → from ≡ getD w (2 * k) 0 → to ≡ getD w (2 * k + 1) 0 → kind ≡ wordAt w k kindWord
-    → startText (stringAt s w k) (nameOf (wordAt w k kindWord)) ≡ bytes "id=" ++ take (to - from) (drop from s) ++ bytes " rule=" ++ nameOf kind
+-- a line up to its rule, from the words as they were read: the id's count from the text's end
+pub start-parts : {s w : List ℕ} {k : ℕ} → IdShown s w k → {a b kind : ℕ} → a ≡ getD w (2 * k) 0 → b ≡ getD w (2 * k + 1) 0 → kind ≡ wordAt w k kindWord
+    → startText (stringAt s w k) (nameOf (wordAt w k kindWord)) ≡ bytes "id=" ++ take (length s - b - (length s - a)) (drop (length s - a) s) ++ bytes " rule=" ++ nameOf kind
 unfolding stringAt
-start-parts {s} {w} {k} named {from} {to} {kind} p q r =
-    let i : getD w (2 * k + 1) 0 ≡ from + (to - from) = omega (arith, named .up) in
-    let e : slice (getD w (2 * k) 0) (getD w (2 * k + 1) 0) s ≡ take (to - from) (drop from s) =
-    ap (λ (n : ℕ). slice n (getD w (2 * k + 1) 0) s) (sym p) ∙ ap (λ (n : ℕ). slice from n s) i ∙ slice-from from (to - from) s in
-    ap (λ (x : List ℕ). startText x (nameOf (wordAt w k kindWord))) e ∙ ap (λ (n : ℕ). startText (take (to - from) (drop from s)) (nameOf n)) (sym r) ∙ whole (take (to - from) (drop from s)) (nameOf kind)
+start-parts {s} {w} {k} named {a} {b} {kind} p q r =
+    rw (← p, ← q, ← r) (ap (λ (x : List ℕ). startText x (nameOf kind)) (part (length s - a) (length s - b) (omega (arith, named .up))) ∙ whole _ (nameOf kind))
   where
+    part : (from to : ℕ) → from ≤ to → slice from to s ≡ take (to - from) (drop from s)
+    part from to h = let i : to ≡ from + (to - from) = omega arith in ap (λ (n : ℕ). slice from n s) i ∙ slice-from from (to - from) s
+
     whole : (x y : List ℕ) → startText x y ≡ bytes "id=" ++ x ++ bytes " rule=" ++ y
     whole x y = unfold startText in refl
 

@@ -44,9 +44,9 @@ pub record Counted (numbers : List ℕ) (n : ℕ) (ls : List Line) : Type 0 wher
 pub record IdShown (s w : List ℕ) (k : ℕ) : Type 0 where
   pub room : allWords ≤ length w
   pub few : k < maxCommands
-  pub up : getD w (2 * k) 0 ≤ getD w (2 * k + 1) 0
-  pub inside : getD w (2 * k + 1) 0 ≤ length s
-  pub short : getD w (2 * k + 1) 0 ≤ getD w (2 * k) 0 + maxName
+  pub up : getD w (2 * k + 1) 0 ≤ getD w (2 * k) 0
+  pub inside : getD w (2 * k) 0 ≤ length s
+  pub short : getD w (2 * k) 0 ≤ getD w (2 * k + 1) 0 + maxName
   pub kind : wordAt w k kindWord ≤ 8
 
 -- each of the first n commands, with its answer and its marks
@@ -54,7 +54,7 @@ pub record Printable (s w numbers : List ℕ) (plains marks : List Bool) (n : �
   pub room : allWords ≤ length w
   pub few : n ≤ maxCommands
   pub ids : Spans s w n
-  pub short : (j : ℕ) → j < n → getD w (2 * j + 1) 0 ≤ getD w (2 * j) 0 + maxName
+  pub short : (j : ℕ) → j < n → getD w (2 * j) 0 ≤ getD w (2 * j + 1) 0 + maxName
   pub kinds : (j : ℕ) → j < n → wordAt w j kindWord ≤ 8
   pub numbered : n ≤ length numbers
   pub plained : n ≤ length plains

@@ -23,7 +23,7 @@ const BASE: usize = 10;
 
 // ---- pieces
 // Writes src from byte `at` on, and answers the place behind it.
-fn append(report: &mut [u8], at: usize, src: &[u8]) -> usize
+pub fn append(report: &mut [u8], at: usize, src: &[u8]) -> usize
     requires { ⌜ at + length (now src) ≤ length (now report) ⌝ }
     ensures { λ r. ⌜ Wrote (now (report .entry)) at (now (src .entry)) (now (report .exit)) r ⌝ }
 {
@@ -100,8 +100,8 @@ fn write_start(report: &mut [u8], at: usize, text: &[u8], commands: &[u16], k: u
     ensures { λ r. ⌜ Wrote (now (report .entry)) at (startText (stringAt (now (text .entry)) (now (commands .entry)) k) (nameOf (wordAt (now (commands .entry)) k kindWord))) (now (report .exit)) r ⌝ }
     ensures { λ r. ⌜ r ≤ at + startRoom ⌝ }
 {
-    let from = wide_short(commands[2 * k]);
-    let to = wide_short(commands[2 * k + 1]);
+    let from = text.len() - wide_short(commands[2 * k]);
+    let to = text.len() - wide_short(commands[2 * k + 1]);
     let kind = word_of(commands, k, KIND_WORD);
     let id_at = append(report, at, b"id=");
     let after_id = append(report, id_at, &text[from..to]);

@@ -7,11 +7,11 @@ use Prim.Native.Nat.{ℕ, zero, suc, _+_, _≤_, _<_}
 use native.Mathlib.Omega.{arith}
 use lib.Dec.{T, leb, ltb, ltb→lt, leb→le}
 use lib.ListN.{length, length-append}
-use Rattle.calculus.specs.Commands.{enough, newId, premise, premises, premisesAt, argsAt, ruleAmong, ruleOf, onRule, ruleAt, assumeAt, stepAt, commandAt, Read, whole, refused, begin, halt, onLead, leadAt, onCommand, onRead, commands, readFile}
+use Rattle.calculus.specs.Commands.{enough, newId, premise, premises, premisesAt, argsAt, ruleAmong, ruleOf, onRule, ruleAt, assumeAt, stepAt, commandAt, Read, whole, refused, begin, halt, onLead, leadAt, onCommand, onRead, commands, readBehind, readFile}
 use Rattle.calculus.specs.Grammar.{Reads, got, off, then, sameMark, expect, nameAt, closeAt, term, items}
 use Rattle.calculus.specs.Terms.{Term, sameName, Rule, part, Command, assume, step, listed, ruleText}
 use Rattle.calculus.specs.Words.{Res, ok, bad, Mark, opening, closing, cl-word, assume-word, step-word, rule-word, premises-word, args-word, Word, mark, operator, numeral, name, Token, ended, word, wrong, tokenAt}
-use Rattle.calculus.specs.Writing.{maxNodes, maxText, maxCommands, known, termWords, termsWords, nameWords, premisesWords, argsWords, commandWords, wordsOf, Has, nodes, nodesIn, fits, fitAll, allKnown, allowed, allowedBehind, commandNodes, allNodes, IsRead}
+use Rattle.calculus.specs.Writing.{maxNodes, maxText, maxCommands, known, termWords, termsWords, nameWords, premisesWords, argsWords, commandWords, wordsOf, Has, nodes, nodesIn, fits, fitAll, allKnown, allowed, allowedBehind, commandNodes, allNodes, IsReadBehind, IsRead}
 use Rattle.calculus.proofs.Booleans.{and-mk}
 use Rattle.theorems.proofs.Faithful.{has-append, has-word, has-one, has-as, Took, More, written}
 use Rattle.theorems.proofs.Inversion.{sameMark-eq, off-got, got-value, got-place, got-nodes, then-got, mark-got, option-got, name-got, cond-got, cond-not, item-got}
@@ -308,17 +308,31 @@ unfolding commands
 commands-has zero s at n cs ds e = absurd (refused-whole e)
 commands-has (suc f) s at n cs ds e = commands-step f s (commands-has f s) at n cs ds e
 
+-- the nodes of commands one after the other
+pub nodes-append : (cs ds : List Command) → allNodes (cs ++ ds) ≡ allNodes cs + allNodes ds
+unfolding allNodes
+nodes-append [] ds = omega arith
+nodes-append (c ∷ cs) ds = omega (arith, nodes-append cs ds)
+
+-- what is read behind commands within the limits is those commands and a file's: the text has the words of the file's and no others, and both together keep the limits
+pub faithful-behind : (before : List Command) (s : List ℕ) (ds : List Command) → allNodes before ≤ maxNodes → length before ≤ maxCommands → readBehind before s ≡ whole ds → (cs : List Command) × (ds ≡ before ++ cs) × IsReadBehind before s cs
+unfolding readBehind
+faithful-behind before s ds n k e = go (leb (length s) maxText) (leb→le (length s) maxText) e
+  where
+    go : (c : Bool) → (T c → length s ≤ maxText) → cond c (commands enough s 0 (allNodes before) before) (refused 2 maxText) ≡ whole ds → (cs : List Command) × (ds ≡ before ++ cs) × IsReadBehind before s cs
+    go true f e =
+        let r : Rest s 0 (allNodes before) before ds = commands-has enough s 0 (allNodes before) before ds e in (
+          r .rest,
+          r .all,
+          record {
+            short = f tt;
+            limits = record { allowed = r .allow; nodes = omega (arith, nodes-append before (r .rest), r .room n); commands = omega (arith, length-append before (r .rest), r .few k) };
+            words = record { last = r .spelled; size = r .size; words = r .has; none = r .none };
+          },
+        )
+    go false f e = absurd (refused-whole e)
+
 -- a text that is read has the words of its commands and no others, and keeps the limits
 pub faithful : (s : List ℕ) (cs : List Command) → readFile s ≡ whole cs → IsRead s cs
-unfolding readFile
-faithful s cs e = go (leb (length s) maxText) (leb→le (length s) maxText) e
-  where
-    go : (c : Bool) → (T c → length s ≤ maxText) → cond c (commands enough s 0 0 []) (refused 2 maxText) ≡ whole cs → IsRead s cs
-    go true f e =
-        let r : Rest s 0 0 [] cs = commands-has enough s 0 0 [] cs e in
-        subst (IsRead s) (sym (r .all)) (record {
-          short = f tt;
-          limits = record { allowed = r .allow; nodes = omega (arith, r .room (omega arith)); commands = omega (arith, r .few (omega arith)) };
-          words = record { last = r .spelled; size = r .size; words = r .has; none = r .none };
-        })
-    go false f e = absurd (refused-whole e)
+unfolding readFile allNodes
+faithful s cs e = let (ds, g, r) = faithful-behind [] s cs (omega arith) (omega arith) e in subst (IsRead s) (sym g) r

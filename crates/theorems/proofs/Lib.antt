@@ -16,5 +16,15 @@ pub mod ReadableFile
 pub mod Decimal
 pub mod Written
 pub mod Proper
+pub mod Offset
 pub mod Soundness
+pub mod OpbSolutions
+pub mod OpbTokens
+pub mod OpbFaithful
+pub mod OpbReadable
+pub mod OpbProper
+pub mod OpbWritten
+pub mod OpbIds
+pub mod OpbSoundness
 pub mod Refutation
+pub mod OpbRefutation

@@ -8,11 +8,11 @@ use lib.Dec.{T, eqb, leb, ltb, leb→le, nleb→lt}
 use lib.IntN.{pos}
 use lib.ListN.{length, take, drop, length-drop}
 use Rattle.calculus.specs.Bytes.{isBlank, inWord, classOf, opens, closes}
-use Rattle.calculus.specs.Commands.{enough, newId, premise, premises, premisesAt, argsAt, ruleAmong, ruleOf, onRule, ruleAt, assumeAt, stepAt, commandAt, Read, whole, refused, begin, halt, onLead, leadAt, onCommand, onRead, commands, readFile}
+use Rattle.calculus.specs.Commands.{enough, newId, premise, premises, premisesAt, argsAt, ruleAmong, ruleOf, onRule, ruleAt, assumeAt, stepAt, commandAt, Read, whole, refused, begin, halt, onLead, leadAt, onCommand, onRead, commands, readBehind, readFile}
 use Rattle.calculus.specs.Grammar.{Reads, got, off, then, sameMark, onMark, expect, onOption, onName, nameAt, closeAt, Head, leaf, stop, limited, onOperator, onTerm, headAt, onHead, onItem, term, items}
 use Rattle.calculus.specs.Terms.{Op, Term, num, var, app, sameName, Rule, Command, ruleText}
 use Rattle.calculus.specs.Words.{Res, ok, bad, bind, ensure, Mark, opening, closing, cl-word, assume-word, step-word, rule-word, premises-word, args-word, Word, mark, operator, numeral, name, Token, ended, word, wrong, tokenAt, tokenFrom, tokenBehind, span, judged, wordOf, wordText, fixedOr, fixedWords, nameOf, isNameText, maxName, numeralFirst, numeralOf, magnitude, negative, digits, leadingZero, valueFrom, maxNumeral}
-use Rattle.calculus.specs.Writing.{maxNodes, maxDepth, maxText, maxCommands, known, termWords}
+use Rattle.calculus.specs.Writing.{maxNodes, maxDepth, maxText, maxCommands, known, termWords, allNodes}
 use Rattle.theorems.proofs.Faithful.{Took, More, written}
 use Rattle.theorems.proofs.FaithfulFile.{premise-got, premisesAt-has, argsAt-has, Stands, commandAt-has}
 use Rattle.calculus.proofs.Tokens.{token-later, has-long, has-inside, span-le}
@@ -337,11 +337,15 @@ module _ (s : List ℕ) where
         let j : u + _ ≤ t = has-long s _ u t (r .part .has) in
         commands-proper f t m (cs ++ (c ∷ [])) i (omega arith)))
 
--- a refusal has a number from 2 to 8 and a byte of the text, or its length
-pub proper : (s : List ℕ) (n p : ℕ) → readFile s ≡ refused n p → Refusal s n p
-unfolding readFile ProperRead
-proper s n p e = subst (ProperRead s) e (go (leb (length s) maxText) (leb→le (length s) maxText) (nleb→lt (length s) maxText))
+-- a refusal has a number from 2 to 8 and a byte of the text, or its length, whatever commands stand before
+pub proper-behind : (before : List Command) (s : List ℕ) (n p : ℕ) → readBehind before s ≡ refused n p → Refusal s n p
+unfolding readBehind ProperRead
+proper-behind before s n p e = subst (ProperRead s) e (go (leb (length s) maxText) (leb→le (length s) maxText) (nleb→lt (length s) maxText))
   where
-    go : (c : Bool) → (T c → length s ≤ maxText) → (T (not c) → maxText < length s) → ProperRead s (cond c (commands enough s 0 0 []) (refused 2 maxText))
-    go true f g = commands-proper s (f tt) enough 0 0 [] (omega arith) (let h : length s ≤ maxText = f tt in omega arith)
+    go : (c : Bool) → (T c → length s ≤ maxText) → (T (not c) → maxText < length s) → ProperRead s (cond c (commands enough s 0 (allNodes before) before) (refused 2 maxText))
+    go true f g = commands-proper s (f tt) enough 0 (allNodes before) before (omega arith) (let h : length s ≤ maxText = f tt in omega arith)
     go false f g = let h : maxText < length s = g tt in record { low = omega arith; high = omega arith; inside = omega arith }
+
+pub proper : (s : List ℕ) (n p : ℕ) → readFile s ≡ refused n p → Refusal s n p
+unfolding readFile
+proper s n p e = proper-behind [] s n p e

@@ -6,15 +6,15 @@ use Prim.Native.Nat.{ℕ, zero, suc, _+_, _≤_, _<_}
 use native.Mathlib.Omega.{arith}
 use lib.Dec.{T, eqb, eqb-refl, leb, ltb, lt→ltb, le→leb}
 use lib.ListN.{length, length-append}
-use Rattle.calculus.specs.Commands.{enough, newId, premise, premises, premisesAt, argsAt, ruleAmong, ruleOf, onRule, ruleAt, assumeAt, stepAt, commandAt, Read, whole, refused, begin, halt, onLead, leadAt, onCommand, onRead, commands, readFile}
+use Rattle.calculus.specs.Commands.{enough, newId, premise, premises, premisesAt, argsAt, ruleAmong, ruleOf, onRule, ruleAt, assumeAt, stepAt, commandAt, Read, whole, refused, begin, halt, onLead, leadAt, onCommand, onRead, commands, readBehind, readFile}
 use Rattle.calculus.specs.Grammar.{Reads, got, off, then, markNumber, sameMark, onMark, expect, onOption, onName, nameAt, onClose, closeAt, onItem, term, items}
 use Rattle.calculus.specs.Terms.{Term, sameName, Rule, addition, multiplication, division, saturation, literal, normalize, transfer, part, Command, assume, step, listed, ruleText}
 use Rattle.calculus.specs.Words.{ok, Mark, opening, closing, cl-word, assume-word, step-word, rule-word, premises-word, args-word, Word, mark, name, Token, ended, word, tokenAt}
-use Rattle.calculus.specs.Writing.{maxNodes, maxText, maxCommands, known, termWords, termsWords, nameWords, premisesWords, argsWords, commandWords, wordsOf, Has, nodes, nodesIn, fits, fitAll, allKnown, allowed, allowedBehind, commandNodes, allNodes, IsRead}
+use Rattle.calculus.specs.Writing.{maxNodes, maxText, maxCommands, known, termWords, termsWords, nameWords, premisesWords, argsWords, commandWords, wordsOf, Has, nodes, nodesIn, fits, fitAll, allKnown, allowed, allowedBehind, commandNodes, allNodes, IsReadBehind, IsRead}
 use Rattle.calculus.proofs.Booleans.{and-l, and-r, is-true}
 use Rattle.theorems.proofs.Readable.{has-split, unlisted-back, got-eq, item-close, completes}
 use Rattle.theorems.proofs.Faithful.{has-as, terms-listed}
-use Rattle.theorems.proofs.FaithfulFile.{body, command-words}
+use Rattle.theorems.proofs.FaithfulFile.{body, command-words, nodes-append}
 use Rattle.calculus.proofs.Tokens.{token-later, has-long, has-inside}
 
 not-false : (b : Bool) → T (not b) → b ≡ false
@@ -208,13 +208,34 @@ module _ (s : List ℕ) where
         has-open : (c : Command) (at b : ℕ) → Has s at (commandWords c) b → (p : ℕ) × (u : ℕ) × (tokenAt s at ≡ word (mark opening) p u) × Has s u (body c) b
         has-open c at b h = has-as s at b (commandWords c) (mark opening ∷ body c) (sym (command-words c)) h
 
--- a text with the words of commands within the limits is read as these commands
+-- a text with the words of commands within the limits is read as these commands, behind those before it
+pub complete-behind : (before : List Command) (s : List ℕ) (cs : List Command) → IsReadBehind before s cs → readBehind before s ≡ whole (before ++ cs)
+unfolding readBehind
+complete-behind before s cs r =
+    let n : allNodes before + allNodes cs ≤ maxNodes = omega (arith, nodes-append before cs, r .limits .nodes) in
+    let k : length before + length cs ≤ maxCommands = omega (arith, length-append before cs, r .limits .commands) in
+    ap (λ (b : Bool). cond b (commands enough s 0 (allNodes before) before) (refused 2 maxText)) (is-true (leb (length s) maxText) (le→leb (length s) maxText (r .short)))
+    ∙ commands-eq s (r .short) enough cs 0 (allNodes before) (r .words .last) (r .words .size) before (omega arith) (r .limits .allowed) n k (r .words .words) (r .words .none)
+
 pub complete : (s : List ℕ) (cs : List Command) → IsRead s cs → readFile s ≡ whole cs
 unfolding readFile
-complete s cs r =
-    ap (λ (b : Bool). cond b (commands enough s 0 0 []) (refused 2 maxText)) (is-true (leb (length s) maxText) (le→leb (length s) maxText (r .short)))
-    ∙ commands-eq s (r .short) enough cs 0 0 (r .words .last) (r .words .size) [] (omega (arith, r .limits .commands)) (r .limits .allowed) (omega (arith, r .limits .nodes)) (omega (arith, r .limits .commands)) (r .words .words) (r .words .none)
+complete s cs r = complete-behind [] s cs r
 
--- a text is a file of at most one list of commands
+-- one list in front of two
+pub append-same : {A : Type 0} (xs ys zs : List A) → xs ++ ys ≡ xs ++ zs → ys ≡ zs
+append-same [] ys zs e = e
+append-same {A} (x ∷ xs) ys zs e = append-same xs ys zs (ap rest e)
+  where
+    rest : List A → List A
+    rest [] = []
+    rest (y ∷ ys) = ys
+
+-- a text is a file of at most one list of commands, behind those before it
+pub read-once-behind : (before : List Command) (s : List ℕ) (cs ds : List Command) → IsReadBehind before s cs → IsReadBehind before s ds → cs ≡ ds
+read-once-behind before s cs ds r q =
+    let e : whole (before ++ cs) ≡ whole (before ++ ds) = sym (complete-behind before s cs r) ∙ complete-behind before s ds q in
+    let g : before ++ cs ≡ before ++ ds = cc in
+    append-same before cs ds g
+
 pub read-once : (s : List ℕ) (cs ds : List Command) → IsRead s cs → IsRead s ds → cs ≡ ds
-read-once s cs ds r q = let e : whole cs ≡ whole ds = sym (complete s cs r) ∙ complete s ds q in cc
+read-once s cs ds r q = read-once-behind [] s cs ds r q

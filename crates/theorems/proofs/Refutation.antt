@@ -6,7 +6,7 @@ use lib.IntN.{pos}
 use Rattle.calculus.specs.Bytes.{bytes}
 use Rattle.calculus.specs.Terms.{Term, num, var, app, nil, cons, sub, mul, ge, addition, Command, assume, step}
 use Rattle.calculus.specs.Truth.{Assignment, Models}
-use Rattle.calculus.specs.Claim.{Sound, EndsIn, linesOf, lastLine, refutedYes}
+use Rattle.calculus.specs.Claim.{SoundBehind, Sound, EndsIn, linesOf, lastLine, refutedYes}
 use Rattle.calculus.specs.Commands.{whole, readFile}
 use Rattle.calculus.specs.Report.{reportOf}
 use Rattle.calculus.proofs.Computing.{computing}
@@ -51,5 +51,5 @@ last-says = (bytes "commands=3 refused=0", refl)
 
 -- no assignment of 0 and 1 satisfies the two assumptions
 pub unsolvable : (σ : Assignment) → ¬ (Models σ commands)
-unfolding Sound
-unsolvable = sound text commands (faithful text commands read) .refuted last-says
+unfolding Sound SoundBehind
+unsolvable σ m = sound text commands (faithful text commands read) .refuted last-says σ (tt, m)

@@ -45,7 +45,7 @@ wordBytes [] = true
 wordBytes (b ∷ bs) = inWord b && wordBytes bs
 
 -- what holds of the four blanks holds of every blank
-blank-cases : (P : ℕ → Type 0) → P 32 → P 10 → P 9 → P 13 → (b : ℕ) → T (isBlank b) → P b
+pub blank-cases : (P : ℕ → Type 0) → P 32 → P 10 → P 9 → P 13 → (b : ℕ) → T (isBlank b) → P b
 unfolding isBlank
 blank-cases P p q r s b = or-elim (eqb b 32) _ (is 32 p) (or-elim (eqb b 10) _ (is 10 q) (or-elim (eqb b 9) _ (is 9 r) (is 13 s)))
   where
@@ -53,7 +53,7 @@ blank-cases P p q r s b = or-elim (eqb b 32) _ (is 32 p) (or-elim (eqb b 10) _ (
     is c h t = subst P (sym (eqb→eq b c t)) h
 
 -- a byte of a name is a byte of a word
-name-byte : (b : ℕ) → T (inName b) → T (inWord b)
+pub name-byte : (b : ℕ) → T (inName b) → T (inWord b)
 unfolding inName inWord classOf isDigit isLetter
 name-byte b h =
     go (isBlank b) (isDigit b) (isLetter b) (eqb b 46)

@@ -10,10 +10,10 @@ use Rattle.cutting_planes.proofs.read_text.Statement.{statement}
 use Rattle.cutting_planes.proofs.read_text.Tie as tie
 
 abbrev Inv-loop : tie.InvT-loop
-Inv-loop text₀ chunk₀ done₀ text chunk done = (done ≤ length text₀) × (length text ≡ length text₀) × (length chunk ≡ length chunk₀)
+Inv-loop file text₀ chunk₀ done₀ text chunk done = (done ≤ length text₀) × (length text ≡ length text₀) × (length chunk ≡ length chunk₀)
 
 abbrev μ-loop : tie.MeasureT-loop
-μ-loop text₀ chunk₀ done₀ text chunk done = length text₀ - done
+μ-loop file text₀ chunk₀ done₀ text chunk done = length text₀ - done
 
 buffer-requires : tie.Need-buffer-requires Inv-loop μ-loop
 buffer-requires c κs = search needs

@@ -18,6 +18,9 @@ shared-slice-read-wide-short c = search needs
 wide-short-requires : tie.Need-wide-short-requires
 wide-short-requires c κs = search needs
 
+sub-from : tie.Need-sub-from
+sub-from c = search needs
+
 mul-wide-short-3 : tie.Need-mul-wide-short-3
 mul-wide-short-3 c = search needs
 
@@ -32,6 +35,9 @@ shared-slice-read-wide-short-2 c = search needs
 
 wide-short-requires-2 : tie.Need-wide-short-requires-2
 wide-short-requires-2 c κs = search needs
+
+sub-to : tie.Need-sub-to
+sub-to c = search needs
 
 word-of-requires : tie.Need-word-of-requires
 word-of-requires c κs = search needs
@@ -77,11 +83,13 @@ write-start-spec =
     mul-wide-short-2
     shared-slice-read-wide-short
     wide-short-requires
+    sub-from
     mul-wide-short-3
     add-wide-short
     mul-wide-short-4
     shared-slice-read-wide-short-2
     wide-short-requires-2
+    sub-to
     word-of-requires
     slice-aggregate-append
     append-requires

@@ -1,0 +1,79 @@
+-- What the reader of both texts answers decides: a file's report, or a refusal's line.
+use borrow.Author.Needs.{needs}
+use Rattle.checker.proofs.Distinct.{file-both}
+use Rattle.checker.proofs.Reporting.{both-report, both-refusal, both-never-small}
+use Rattle.checker.proofs.report_joined.Statement.{statement}
+use Rattle.checker.proofs.report_joined.Tie as tie
+
+read-both-requires : tie.Need-read-both-requires
+read-both-requires c κs = (c .before .before .before .before .before .before .before .before .pre) .1
+
+enum-known-n : tie.Need-enum-known-n
+enum-known-n c = search needs
+
+report-file-requires : tie.Need-report-file-requires
+report-file-requires c κs = (file-both ((c .before .before .before .before .before .before .before .before .before .before .before .before .before .before .before .before .before .before .before .args) .opb .now) ((c .before .before .before .before .before .before .before .before .before .before .before .before .before .before .before .before .before .before .before .args) .text .now) ((c .before .before .before .before .before .before .before .before .before .before .before .before .before .before .before .before .before .before .before .args) .string .now) ((c .before .before .before .before .before .before .before .before .before .before .read-both) .last .1 .1 .1 .0) ((c .before .before .before .before .before .before .before .before .before .before .read-both) .last .1 .1 .1 .1 .0) ((c .before .before .before .before .before .before .before .before .before .before .read-both) .result) _ _ _ ((c .before .before .before .before .before .before .before .before .before .before .read-both) .ensures) ((c .before .before .before .before .n) .given .1), (c .before .before .before .before .before .before .before .before .before .before .before .before .before .before .before .before .before .before .before .pre) .0)
+
+enum-known-number : tie.Need-enum-known-number
+enum-known-number c = search needs
+
+write-refusal-requires : tie.Need-write-refusal-requires
+write-refusal-requires c κs = search needs
+
+enum-told : tie.Need-enum-told
+enum-told c = search needs
+
+same-length : tie.Need-same-length
+same-length c = search needs
+
+same-length-2 : tie.Need-same-length-2
+same-length-2 c = search needs
+
+same-length-3 : tie.Need-same-length-3
+same-length-3 c = search needs
+
+returns : tie.Need-returns
+returns c = both-report ((c .before .before .before .before .before .before .before .before .before .before .before .before .before .before .before .before .before .before .before .before .before .before .args) .opb .now) ((c .before .before .before .before .before .before .before .before .before .before .before .before .before .before .before .before .before .before .before .before .before .before .args) .text .now) ((c .before .before .before .before .before .before .before .before .before .before .before .before .before .before .before .before .before .before .before .before .before .before .args) .string .now) ((c .before .before .before .before .before .before .before .before .before .before .before .before .before .read-both) .last .1 .1 .1 .0) ((c .before .before .before .before .before .before .before .before .before .before .before .before .before .read-both) .last .1 .1 .1 .1 .0) ((c .before .before .before .before .before .before .before .before .before .before .before .before .before .read-both) .result) ((c .before .before .before .before .before .before .before .before .before .before .before .before .before .read-both) .ensures) _ _ _ ((c .before .before .before .before .before .before .before .n) .given .1) ((c .before .before .report-file) .ensures)
+
+same-length-4 : tie.Need-same-length-4
+same-length-4 c = search needs
+
+same-length-5 : tie.Need-same-length-5
+same-length-5 c = search needs
+
+same-length-6 : tie.Need-same-length-6
+same-length-6 c = search needs
+
+returns-2 : tie.Need-returns-2
+returns-2 c = both-refusal ((c .before .before .before .before .before .before .before .before .before .before .before .before .before .before .before .before .before .before .before .before .args) .opb .now) ((c .before .before .before .before .before .before .before .before .before .before .before .before .before .before .before .before .before .before .before .before .args) .text .now) ((c .before .before .before .before .before .before .before .before .before .before .before .before .before .before .before .before .before .before .before .before .args) .string .now) ((c .before .before .before .before .before .before .before .before .before .before .before .read-both) .last .1 .1 .1 .0) ((c .before .before .before .before .before .before .before .before .before .before .before .read-both) .last .1 .1 .1 .1 .0) ((c .before .before .before .before .before .before .before .before .before .before .before .read-both) .result) ((c .before .before .before .before .before .before .before .before .before .before .before .read-both) .ensures) _ _ ((c .before .before .before .before .before .number) .given .1) ((c .before .before .write-refusal) .ensures)
+
+same-length-7 : tie.Need-same-length-7
+same-length-7 c = search needs
+
+same-length-8 : tie.Need-same-length-8
+same-length-8 c = search needs
+
+returns-3 : tie.Need-returns-3
+returns-3 c = both-never-small ((c .before .before .before .before .before .before .before .before .before .before .before .before .before .before .before .args) .opb .now) ((c .before .before .before .before .before .before .before .before .before .before .before .before .before .before .before .args) .text .now) ((c .before .before .before .before .before .before .before .before .before .before .before .before .before .before .before .args) .string .now) ((c .before .before .before .before .before .before .read-both) .last .1 .1 .1 .0) ((c .before .before .before .before .before .before .read-both) .last .1 .1 .1 .1 .0) ((c .before .before .before .before .before .before .read-both) .result) ((c .before .before .before .before .before .before .read-both) .ensures) ((c .enum-told) .given .1)
+
+pub report-joined-spec : {M : Type 1} → statement M
+report-joined-spec =
+    tie.close
+    (tie.spec
+    read-both-requires
+    enum-known-n
+    report-file-requires
+    enum-known-number
+    write-refusal-requires
+    enum-told
+    same-length
+    same-length-2
+    same-length-3
+    returns
+    same-length-4
+    same-length-5
+    same-length-6
+    returns-2
+    same-length-7
+    same-length-8
+    returns-3)

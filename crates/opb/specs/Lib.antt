@@ -1,0 +1,4 @@
+pub mod Summands
+pub mod Counts
+pub mod Tokens
+pub mod Judged

@@ -1,0 +1,4 @@
+pub mod Ids
+pub mod Assuming
+pub mod Looping
+pub mod Both

@@ -1,0 +1,4 @@
+pub mod Putting
+pub mod Turning
+pub mod Products
+pub mod Summing
