@@ -186,12 +186,18 @@ fn steps_behind(bytes: usize) -> String {
     })
 }
 
+/// README's example.
+const ODD: &str = include_str!("../../../examples/opb/odd.opb");
+const ODD_PROOF: &str = include_str!("../../../examples/opb/odd.proof");
+
 /// All pairs of an OPB text and a proof text.
 pub fn pairs() -> Vec<Pair> {
     let pair = |name, opb: String, proof: String| Pair { name, opb: opb.into_bytes(), proof: proof.into_bytes() };
     let alone = |name, opb| pair(name, opb, String::new());
     vec![
         alone("two empty texts", String::new()),
+        alone("README's example, its model alone", ODD.into()),
+        pair("README's example, 3 steps", ODD.into(), ODD_PROOF.into()),
         alone("a model, 2 KB", model(2_048)),
         alone("a model of equalities, 2 KB", up_to(2_048, |number| small_constraint(number).opb("="))),
         alone("a model of 4,080 nodes", (0..204).map(|number| small_constraint(number).opb(">=")).collect()),
