@@ -8,7 +8,7 @@ use native.Mathlib.Omega.{arith}
 use lib.Dec.{T}
 use lib.ListN.{length, getD}
 use Rattle.calculus.specs.Terms.{Command, assume, step, idOf, sameName}
-use Rattle.calculus.specs.Writing.{known, allowed, allowedBehind}
+use Rattle.calculus.specs.Limits.{known, allowed, allowedBehind}
 use Rattle.calculus.proofs.Booleans.{and-l, and-r, and-mk, is-false}
 use Rattle.theorems.proofs.FaithfulFile.{faithful}
 use Rattle.theorems.proofs.OpbIds.{both-limits}

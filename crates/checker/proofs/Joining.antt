@@ -6,7 +6,7 @@ use native.Mathlib.Omega.{arith}
 use borrow.Author.Tests.{le-leb, lt-leb}
 use lib.ListN.{length, take}
 use Rattle.calculus.specs.Report.{minTable}
-use Rattle.calculus.specs.Writing.{maxText}
+use Rattle.calculus.specs.Limits.{maxText}
 use Rattle.opb_reader.specs.Ids.{ids, kept, joined}
 use Rattle.opb_reader.specs.Reading.{BothReady}
 use Rattle.reader.specs.Commands.{allWords}

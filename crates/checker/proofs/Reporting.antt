@@ -14,7 +14,7 @@ use Rattle.calculus.specs.OpbReading.{readOpb}
 use Rattle.calculus.specs.OpbReport.{onOpb, readBoth, reportBoth, writtenBoth}
 use Rattle.calculus.specs.Report.{minReport, minTable, reportLines, reportOf, reportRead, refusalText, written}
 use Rattle.calculus.specs.Terms.{Term}
-use Rattle.calculus.specs.Writing.{maxText}
+use Rattle.calculus.specs.Limits.{maxText}
 use Rattle.calculus.proofs.Booleans.{is-true, is-false}
 use Rattle.theorems.proofs.OpbSoundness.{sound-both-written}
 use Rattle.theorems.proofs.Soundness.{sound-written}

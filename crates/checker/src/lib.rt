@@ -30,7 +30,7 @@ ghost use Rattle.calculus.specs.Marks.{numberOf, plainOf};
 ghost use Rattle.calculus.specs.OpbClaim.{SoundBoth};
 ghost use Rattle.calculus.specs.OpbReport.{reportBoth, writtenBoth};
 ghost use Rattle.calculus.specs.Report.{minReport, minTable, reportLines, reportOf, written};
-ghost use Rattle.calculus.specs.Writing.{maxText};
+ghost use Rattle.calculus.specs.Limits.{maxText};
 ghost use Rattle.matching.specs.Matched.{answerOf};
 ghost use Rattle.opb_reader.specs.Ids.{joined};
 ghost use Rattle.opb_reader.specs.Reading.{BothReady};

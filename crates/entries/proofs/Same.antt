@@ -3,7 +3,7 @@ use mathlib.Core.List.{List, [], _∷_, map}
 use mathlib.Core.Path.{_≡_, refl, ap}
 use Prim.Native.Nat.{ℕ}
 use Rattle.calculus.specs.Normalize.{negEntry, negAll}
-use Rattle.calculus.specs.Sums.{Entry as SumEntry}
+use Rattle.calculus.specs.Entries.{Entry as SumEntry}
 use Rattle.calculus.specs.Terms.{Term}
 use Rattle.entries.specs.declared.Entry.{Entry}
 use Rattle.entries.specs.Entries.{negated, entryOf}

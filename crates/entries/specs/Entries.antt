@@ -4,7 +4,7 @@ use Prim.Native.Nat.{ℕ}
 use lib.IntN.{ℤ, negℤ}
 use mir.Syntax.{w64}
 use mir.Val.{SFits}
-use Rattle.calculus.specs.Sums.{Entry as SumEntry, entry}
+use Rattle.calculus.specs.Entries.{Entry as SumEntry, entry}
 use Rattle.calculus.specs.Terms.{Term}
 use Rattle.entries.specs.declared.Entry.{Entry}
 

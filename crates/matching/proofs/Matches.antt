@@ -18,7 +18,7 @@ use Rattle.calculus.specs.Equality.{opNum, opOf, sameOp}
 use Rattle.calculus.specs.Matching.{asConstant, isName, argumentsOf, pair, binary, negOf}
 use Rattle.calculus.specs.Sums.{litIf, litOf, childrenOr, splitSummation}
 use Rattle.calculus.specs.Terms.{Term, var, app, listed, sameInteger}
-use Rattle.calculus.specs.Writing.{maxNodes}
+use Rattle.calculus.specs.Limits.{maxNodes}
 use Rattle.calculus.specs.Words.{ok, bad}
 use Rattle.calculus.proofs.TermLaws.{sameInteger-refl}
 use Rattle.calculus.proofs.Booleans.{is-true}

@@ -5,7 +5,8 @@ use mathlib.Core.List.{List, [], _∷_}
 use Prim.Native.Nat.{ℕ, zero, suc, _<_}
 use lib.IntN.{ℤ, pos}
 use lib.ListN.{getD}
-use Rattle.calculus.specs.Sums.{Entry, entry, allNames}
+use Rattle.calculus.specs.Entries.{Entry, entry}
+use Rattle.calculus.specs.Sums.{allNames}
 use Rattle.calculus.specs.Terms.{Term}
 use Rattle.nodes.specs.Nodes.{decode, Node}
 use Rattle.matching.specs.Matched.{variableOf, litAt, Variable}

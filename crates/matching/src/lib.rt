@@ -9,7 +9,7 @@ ghost use mathlib.Core.List.{List, [], _∷_};
 ghost use Prim.Native.Nat.{ℕ, _+_, _*_, _/_, _≤_, _<_};
 ghost use lib.ListN.{length};
 ghost use Rattle.calculus.specs.Matching.{isName};
-ghost use Rattle.calculus.specs.Writing.{maxNodes};
+ghost use Rattle.calculus.specs.Limits.{maxNodes};
 ghost use Rattle.nodes.specs.Nodes.{plusKind, firstAt, decode, Node};
 ghost use Rattle.matching.specs.Entries.{Variables, NamesAre};
 ghost use Rattle.matching.specs.Matched.{ConstantIs, PairIs, NegationIs, SplitIs, keyOf, variableOf, negatedOf, LiteralIs, NumberIs, KeyIs};

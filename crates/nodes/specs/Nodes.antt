@@ -13,7 +13,7 @@ use Rattle.calculus.specs.Equality.{opOf}
 use Rattle.calculus.specs.Report.{minTable}
 use Rattle.calculus.specs.Terms.{Term, num, var, app, listed}
 use Rattle.calculus.specs.Words.{maxNumeral, maxName}
-use Rattle.calculus.specs.Writing.{maxNodes}
+use Rattle.calculus.specs.Limits.{maxNodes}
 
 -- ---- kinds: below `plusKind` an operator by its number, then a numeral from 0 on, a numeral below 0,
 -- and from `nameKind` on a variable: `nameKind` and its name's number

@@ -10,7 +10,8 @@ use lib.IntN.{ℤ, pos, _+ℤ_}
 use lib.ListN.{length, length-map, getD}
 use Rattle.calculus.specs.Matching.{asConstant}
 use Rattle.calculus.specs.Normalize.{collect, pushEntries, pushedConstant, halfCheck}
-use Rattle.calculus.specs.Sums.{Entry, splitSummation, count, maxSummands}
+use Rattle.calculus.specs.Entries.{Entry}
+use Rattle.calculus.specs.Sums.{splitSummation, count, maxSummands}
 use Rattle.calculus.specs.Terms.{Term, listed}
 use Rattle.calculus.specs.Words.{ok, bad}
 use Rattle.nodes.specs.Nodes.{decode}

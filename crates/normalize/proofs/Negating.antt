@@ -12,7 +12,7 @@ use lib.Seq.{getD-set-same, getD-set-other}
 use Rattle.integer.proofs.Fits.{within-neg, within-pos, fits-within}
 use Rattle.integer.specs.Integers.{Within}
 use Rattle.calculus.specs.Normalize.{negEntry, negAll}
-use Rattle.calculus.specs.Sums.{Entry, entry}
+use Rattle.calculus.specs.Entries.{Entry, entry}
 use Rattle.calculus.specs.Terms.{Term}
 use Rattle.calculus.specs.Words.{maxNumeral}
 use Rattle.entries.proofs.Same.{negate-entry}

@@ -6,7 +6,7 @@ use Prim.Native.Nat.{ℕ, zero, suc, _+_, _*_}
 use native.Mathlib.Omega.{arith}
 use lib.IntN.{ℤ, negℤ}
 use lib.ListN.{length}
-use Rattle.calculus.specs.Writing.{nodes, nodesIn, commandNodes, allNodes}
+use Rattle.calculus.specs.Limits.{nodes, nodesIn, commandNodes, allNodes}
 use Rattle.calculus.specs.OpbWords.{plain, negated, Relation, atLeast, equal}
 use Rattle.calculus.specs.OpbWriting.{Summand, times, compare, literalTerm, summandTerm, summandTerms, sumTerm, inequality, turned, assumptionsOf}
 use Rattle.opb.specs.Counts.{resulting, negations, sumNodes, inequalityNodes}

@@ -9,7 +9,7 @@ use lib.Dec.{leb}
 use lib.ListN.{length, getD, take, drop, drop-of-length-le}
 use lib.Seq.{slice, drop-cons, drop-drop}
 use Rattle.calculus.specs.Bytes.{byte, classOf, isBlank, isDigit, isLetter, inWord}
-use Rattle.calculus.specs.Words.{span}
+use Rattle.calculus.specs.Tokens.{span}
 use Rattle.calculus.specs.OpbWords.{inOpbWord, opbWordOf, opbJudged, opbFrom, opbBehind, insideAt}
 use Rattle.lexer.proofs.Classes.{agree, agreed}
 use Rattle.lexer.proofs.Meanings.{falsely}

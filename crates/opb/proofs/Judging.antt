@@ -13,7 +13,7 @@ use Rattle.calculus.specs.Commands.{enough}
 use Rattle.calculus.specs.OpbWords.{plain, negated, insideAt}
 use Rattle.calculus.specs.OpbWriting.{Summand, times, compare}
 use Rattle.calculus.specs.OpbReading.{OneRead, found, fault, constraintFrom}
-use Rattle.calculus.specs.Writing.{maxText}
+use Rattle.calculus.specs.Limits.{maxText}
 use Rattle.opb.specs.Counts.{negations}
 use Rattle.opb.specs.Judged.{ItemIs, ConstantIs, judgedAt, JudgedIs, putSummand}
 use Rattle.opb.specs.Summands.{maxSummands, summandWords, literalOver, summandsOf, SummandsIn}

@@ -14,7 +14,8 @@ use lib.Seq.{drop-cons, slice, slice-cons, slice-empty, length-slice}
 use Rattle.integer.specs.Integers.{signed}
 use Rattle.calculus.specs.Bytes.{byte, bytes, isDigit}
 use Rattle.calculus.specs.Terms.{sameName}
-use Rattle.calculus.specs.Words.{Res, ok, bad, bind, ensure, span, digits, magnitude, negative, numeralOf, digitFirst, numeralFirst, maxName}
+use Rattle.calculus.specs.Words.{Res, ok, bad, bind, ensure, digits, magnitude, negative, numeralOf, digitFirst, numeralFirst, maxName}
+use Rattle.calculus.specs.Tokens.{span}
 use Rattle.calculus.specs.OpbWords.{OpbWord, number-word, literal-word, word, plusFirst, signedOf, isVariable, literalOf, objective, otherOf, opbWordOf, opbJudged}
 use Rattle.lexer.specs.Tokens.{small}
 use Rattle.lexer.proofs.Bytes.{or-less}

@@ -10,8 +10,9 @@ use lib.ListN.{length, getD, take, drop, drop-of-length-le, length-drop}
 use lib.Seq.{drop-cons, drop-drop, getD-drop}
 use Rattle.calculus.specs.Bytes.{byte, classOf, isBlank, opens, closes}
 use Rattle.calculus.specs.Commands.{enough}
-use Rattle.calculus.specs.Words.{Res, ok, bad, span}
-use Rattle.calculus.specs.Writing.{maxText, allNodes}
+use Rattle.calculus.specs.Words.{Res, ok, bad}
+use Rattle.calculus.specs.Tokens.{span}
+use Rattle.calculus.specs.Limits.{maxText, allNodes}
 use Rattle.calculus.specs.OpbWords.{OpbWord, semicolon, OpbToken, ended, word, wrong, inOpbWord, opbWordOf, opbJudged, opbFrom, opbBehind, insideAt, Place, first, later, comment, nextPlace, passed, gap, placeAt, outsideAt}
 use Rattle.calculus.specs.OpbWriting.{Constraint, assumptionsOf}
 use Rattle.calculus.specs.OpbReading.{fault, OpbRead, constraints, onBegin, constraintFrom, onOne, onOutside, constraintsFrom}

@@ -13,7 +13,7 @@ use Rattle.integer.specs.Integers.{signed}
 use Rattle.calculus.specs.OpbWriting.{inequality, turned, constraintId, assumptionsOf}
 use Rattle.calculus.specs.Terms.{Term, Command, assume}
 use Rattle.calculus.specs.Words.{maxName}
-use Rattle.calculus.specs.Writing.{maxNodes, maxCommands, nodes, commandNodes, allNodes}
+use Rattle.calculus.specs.Limits.{maxNodes, maxCommands, nodes, commandNodes, allNodes}
 use Rattle.theorems.proofs.FaithfulFile.{nodes-append}
 use Rattle.theorems.proofs.OpbIds.{id-once}
 use Rattle.nodes.specs.Nodes.{childrenAt, decode, Below}

@@ -9,7 +9,7 @@ use Rattle.calculus.specs.Commands.{enough, Read, whole, refused, commands, rea
 use Rattle.calculus.specs.OpbReport.{onOpb, readBoth}
 use Rattle.calculus.specs.OpbWriting.{assumptions}
 use Rattle.calculus.specs.Terms.{Command}
-use Rattle.calculus.specs.Writing.{maxText, maxCommands, allNodes}
+use Rattle.calculus.specs.Limits.{maxText, maxCommands, allNodes}
 use Rattle.theorems.proofs.Offset.{laterRead, read-behind}
 use Rattle.terms.specs.Spans.{maxJoined}
 use Rattle.reader.specs.Commands.{commandsOf}

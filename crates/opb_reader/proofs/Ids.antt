@@ -12,7 +12,7 @@ use lib.ListN.{length, take, drop, length-append}
 use lib.Seq.{slice, take-append-le, take-append-seam, drop-append-add, take-append-add}
 use Rattle.calculus.specs.OpbWriting.{constraintId}
 use Rattle.calculus.specs.Words.{decimal, decimalFrom, maxName}
-use Rattle.calculus.specs.Writing.{maxText, maxCommands}
+use Rattle.calculus.specs.Limits.{maxText, maxCommands}
 use Rattle.calculus.proofs.Booleans.{and-l, and-r, is-true, is-false}
 use Rattle.opb_reader.specs.Ids.{idsBehind, ids, idStart, kept, joined}
 use Rattle.opb_reader.specs.Standing.{IdsAt}

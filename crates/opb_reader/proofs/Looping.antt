@@ -14,7 +14,7 @@ use Rattle.calculus.specs.OpbWords.{Relation, atLeast, equal, placeAt, gap}
 use Rattle.calculus.specs.OpbReading.{OpbRead, constraints, refusedAt, onOne, constraintsFrom, readOpb}
 use Rattle.calculus.specs.OpbWriting.{Summand, Constraint, compare, assumptionsOf, assumptionsBehind, assumptions}
 use Rattle.calculus.specs.Terms.{Command}
-use Rattle.calculus.specs.Writing.{maxText, maxNodes, maxCommands, allNodes}
+use Rattle.calculus.specs.Limits.{maxText, maxNodes, maxCommands, allNodes}
 use Rattle.reader.specs.Commands.{commandsOf}
 use Rattle.reader.proofs.Filing.{begun-none}
 use Rattle.reader.proofs.Words.{commands-long}

@@ -5,7 +5,7 @@ use Prim.Native.Nat.{ℕ, zero, suc, _-_, _*_}
 use lib.Dec.{leb}
 use lib.ListN.{length}
 use Rattle.calculus.specs.OpbWriting.{constraintId}
-use Rattle.calculus.specs.Writing.{maxText, maxCommands}
+use Rattle.calculus.specs.Limits.{maxText, maxCommands}
 
 -- m ids behind n others
 unfoldable pub idsBehind : ℕ → ℕ → List ℕ

@@ -9,7 +9,7 @@ use Rattle.calculus.specs.OpbReading.{constraints, refusedAt, readOpb}
 use Rattle.calculus.specs.OpbReport.{readBoth}
 use Rattle.calculus.specs.OpbWriting.{Constraint, assumptions}
 use Rattle.calculus.specs.Report.{minTable}
-use Rattle.calculus.specs.Writing.{maxText, maxNodes, maxCommands}
+use Rattle.calculus.specs.Limits.{maxText, maxNodes, maxCommands}
 use Rattle.nodes.specs.Nodes.{Table, Firsts, Named}
 use Rattle.terms.specs.Names.{nameWords}
 use Rattle.terms.specs.Spans.{maxJoined}

@@ -9,7 +9,7 @@ use lib.ListN.{length}
 use lib.Seq.{slice}
 use Rattle.calculus.specs.OpbWriting.{compare, inequality, constraintId, assumptionsOf}
 use Rattle.calculus.specs.Terms.{assume}
-use Rattle.calculus.specs.Writing.{maxText, maxNodes, maxCommands, allNodes}
+use Rattle.calculus.specs.Limits.{maxText, maxNodes, maxCommands, allNodes}
 use Rattle.nodes.specs.Nodes.{Table}
 use Rattle.terms.specs.Index.{Indexed}
 use Rattle.terms.specs.Names.{Names}

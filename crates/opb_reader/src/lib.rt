@@ -19,7 +19,7 @@ use terms::NAME_WORDS;
 ghost use mathlib.Core.Path.{_≡_};
 ghost use Prim.Native.Nat.{_≤_};
 ghost use Rattle.integer.specs.Integers.{signed};
-ghost use Rattle.calculus.specs.Writing.{maxCommands};
+ghost use Rattle.calculus.specs.Limits.{maxCommands};
 ghost use Rattle.opb.specs.Counts.{resulting};
 ghost use Rattle.opb.specs.Tokens.{relationOf};
 ghost use Rattle.opb_reader.specs.Ids.{idStart};

@@ -14,7 +14,7 @@ use Rattle.calculus.specs.OpbWriting.{times, literalTerm, summandTerm, turned}
 use Rattle.calculus.specs.Report.{minTable}
 use Rattle.calculus.specs.Terms.{Term, num, var, listed}
 use Rattle.calculus.specs.Words.{maxName}
-use Rattle.calculus.specs.Writing.{maxNodes}
+use Rattle.calculus.specs.Limits.{maxNodes}
 use Rattle.nodes.specs.Nodes.{plusKind, minusKind, decode, Below, put}
 use Rattle.nodes.proofs.Tables.{kept-refl, kept-trans, below-more, below-snoc, map-kept}
 use Rattle.opb.specs.Counts.{negations}

@@ -9,7 +9,7 @@ use lib.Seq.{slice, paste}
 use Rattle.integer.specs.Integers.{signed}
 use Rattle.calculus.specs.Equality.{opOf}
 use Rattle.calculus.specs.Terms.{Term, num, var, app, listed}
-use Rattle.calculus.specs.Writing.{maxNodes}
+use Rattle.calculus.specs.Limits.{maxNodes}
 use Rattle.nodes.specs.Nodes.{plusKind, minusKind, nameKind, childBase, childrenAt, shape, decode, Below, Table, Kept, put}
 use Rattle.nodes.proofs.Copying.{copy-none, copy-more, copy-two}
 use Rattle.nodes.proofs.Tables.{kept-trans, decode-kept, map-kept, table-kept, table-wider, shape-application, shape-plus, shape-minus, shape-name, New, put-kept, put-table, put-decode, paste-kept, paste-children}

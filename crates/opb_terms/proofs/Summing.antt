@@ -10,7 +10,7 @@ use Rattle.integer.specs.Integers.{signed}
 use Rattle.calculus.specs.Equality.{opOf}
 use Rattle.calculus.specs.OpbWriting.{Summand, summandTerm, sumTerm, inequality}
 use Rattle.calculus.specs.Terms.{num, app, listed}
-use Rattle.calculus.specs.Writing.{maxNodes}
+use Rattle.calculus.specs.Limits.{maxNodes}
 use Rattle.nodes.specs.Nodes.{plusKind, minusKind, childBase, decode, Below, put}
 use Rattle.opb.specs.Counts.{negations, sumNodes, inequalityNodes}
 use Rattle.opb.specs.Summands.{summandAt, summandsOf}

@@ -11,7 +11,7 @@ use Rattle.integer.specs.Integers.{signed}
 use Rattle.calculus.specs.OpbWriting.{Summand, times, summandTerm, sumTerm, inequality, turned}
 use Rattle.calculus.specs.Terms.{Term}
 use Rattle.calculus.specs.Words.{maxNumeral, maxName}
-use Rattle.calculus.specs.Writing.{maxNodes}
+use Rattle.calculus.specs.Limits.{maxNodes}
 use Rattle.nodes.specs.Nodes.{childBase, childrenAt, decode, Below, Table, put}
 use Rattle.opb.specs.Counts.{negations, sumNodes, inequalityNodes}
 use Rattle.opb.specs.Summands.{summandWord, summandsOf, SummandsIn}

@@ -17,7 +17,7 @@ ghost use lib.Seq.{slice, paste};
 ghost use Rattle.integer.specs.Integers.{signed};
 ghost use Rattle.calculus.specs.OpbWriting.{times, literalTerm, summandTerm};
 ghost use Rattle.calculus.specs.Report.{minTable};
-ghost use Rattle.calculus.specs.Writing.{maxNodes};
+ghost use Rattle.calculus.specs.Limits.{maxNodes};
 ghost use Rattle.nodes.specs.Nodes.{childBase};
 ghost use Rattle.opb.specs.Counts.{negations, sumNodes, inequalityNodes};
 ghost use Rattle.opb.specs.Summands.{maxSummands, summandWords, literalOver, summandAt, summandsOf, SummandIn};

@@ -5,7 +5,7 @@ use Prim.Native.Nat.{ℕ, _≤_}
 use native.Mathlib.Omega.{arith}
 use lib.ListN.{length}
 use Rattle.calculus.specs.Report.{minTable}
-use Rattle.calculus.specs.Writing.{maxNodes, maxCommands}
+use Rattle.calculus.specs.Limits.{maxNodes, maxCommands}
 use Rattle.reader.specs.Commands.{allWords}
 use Rattle.reader.specs.Reading.{ReadsFile}
 use Rattle.reader.specs.declared.Whole.{Whole}

@@ -11,7 +11,7 @@ use reader::read_file;
 ghost use Prim.Native.Nat.{_≤_};
 ghost use lib.ListN.{length};
 ghost use Rattle.calculus.specs.Report.{minTable};
-ghost use Rattle.calculus.specs.Writing.{maxNodes, maxCommands};
+ghost use Rattle.calculus.specs.Limits.{maxNodes, maxCommands};
 ghost use Rattle.reader.specs.Commands.{allWords};
 
 // One byte more than a text may have.

@@ -8,7 +8,7 @@ use lib.ListN.{length, length-append}
 use lib.Dec.{ltb}
 use borrow.Author.Tests.{ltb-true, ltb-false, lt-ltb, le-ltb}
 use Rattle.calculus.specs.Words.{decimalFrom, decimal}
-use Rattle.calculus.specs.Writing.{maxCommands}
+use Rattle.calculus.specs.Limits.{maxCommands}
 
 -- by the test that decimalFrom makes
 by-test : {P : Type 0} (n m : ℕ) → (n < m → P) → (m ≤ n → P) → P

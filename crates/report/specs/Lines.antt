@@ -9,7 +9,7 @@ use Rattle.calculus.specs.Marks.{Line, numberOf, plainOf, noLine}
 use Rattle.calculus.specs.Report.{yesNo, lineText}
 use Rattle.calculus.specs.Terms.{ruleText}
 use Rattle.calculus.specs.Words.{maxName}
-use Rattle.calculus.specs.Writing.{maxCommands}
+use Rattle.calculus.specs.Limits.{maxCommands}
 use Rattle.heads.specs.Heads.{ruleNamed}
 use Rattle.reader.specs.Commands.{allWords, wordAt, kindWord}
 use Rattle.terms.specs.Spans.{stringAt, Spans}

@@ -9,7 +9,7 @@ ghost use lib.ListN.{length};
 ghost use Rattle.calculus.specs.Marks.{Line, refusedIn, refutedBy};
 ghost use Rattle.calculus.specs.Report.{yesNo, lineText, totalsText, refusalText, reportLines, minReport};
 ghost use Rattle.calculus.specs.Words.{decimal};
-ghost use Rattle.calculus.specs.Writing.{maxCommands};
+ghost use Rattle.calculus.specs.Limits.{maxCommands};
 ghost use Rattle.reader.specs.Commands.{wordAt, kindWord};
 ghost use Rattle.terms.specs.Spans.{stringAt};
 ghost use Rattle.report.specs.Written.{Wrote};

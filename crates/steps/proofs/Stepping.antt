@@ -5,7 +5,7 @@ use Prim.Native.Nat.{ℕ, _+_, _-_, _≤_, _<_}
 use native.Mathlib.Omega.{arith}
 use lib.IntN.{ℤ}
 use lib.ListN.{length, getD}
-use Rattle.calculus.specs.Writing.{maxCommands}
+use Rattle.calculus.specs.Limits.{maxCommands}
 use Rattle.nodes.specs.Nodes.{Below, Table, Firsts}
 use Rattle.nodes.proofs.Tables.{below-at}
 use Rattle.matching.specs.declared.Answer.{Answer}

@@ -3,7 +3,7 @@ use mathlib.Core.List.{List}
 use Prim.Native.Nat.{ℕ, _-_, _≤_, _<_}
 use lib.ListN.{length}
 use Rattle.calculus.specs.Marks.{applyRule}
-use Rattle.calculus.specs.Writing.{maxCommands}
+use Rattle.calculus.specs.Limits.{maxCommands}
 use Rattle.heads.specs.Heads.{ruleNamed}
 use Rattle.nodes.specs.Nodes.{Table, Firsts}
 use Rattle.matching.specs.declared.Answer.{Answer}

@@ -8,7 +8,7 @@ use native.Mathlib.Omega.{arith}
 use lib.IntN.{ℤ, pos, _+ℤ_}
 use lib.ListN.{getD}
 use Rattle.integer.proofs.Fits.{within-more, within-add}
-use Rattle.calculus.specs.Sums.{entry}
+use Rattle.calculus.specs.Entries.{entry}
 use Rattle.matching.specs.Matched.{term, litAt, variableOf, Variable}
 use Rattle.matching.specs.Entries.{entryAt, entries}
 use Rattle.matching.specs.Places.{maxEntries, Put1}

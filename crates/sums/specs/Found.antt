@@ -7,7 +7,8 @@ use Prim.Native.Nat.{ℕ, suc, _+_, _*_, _≤_, _<_}
 use lib.IntN.{ℤ, pos}
 use lib.ListN.{length, getD}
 use Rattle.integer.specs.Integers.{Within}
-use Rattle.calculus.specs.Sums.{Entry, entry, put, sameLit, summand, loneConstant, unwrapInequality, keysIn, sameKeys, addSums, reducedAt, slackAt, reduceSum, maxSummands}
+use Rattle.calculus.specs.Entries.{Entry, entry}
+use Rattle.calculus.specs.Sums.{put, sameLit, summand, loneConstant, unwrapInequality, keysIn, sameKeys, addSums, reducedAt, slackAt, reduceSum, maxSummands}
 use Rattle.calculus.specs.Terms.{listed}
 use Rattle.calculus.specs.Words.{Res, ok, bad, maxNumeral}
 use Rattle.nodes.specs.Nodes.{decode, Below, Node}

@@ -6,7 +6,8 @@ use Prim.Native.Nat.{ℕ, zero, suc, _+_, _*_, _^_, _≤_, _<_}
 use lib.IntN.{ℤ, pos}
 use lib.ListN.{getD}
 use Rattle.integer.specs.Integers.{Within}
-use Rattle.calculus.specs.Sums.{Lit, Entry, sameLit, maxSummands}
+use Rattle.calculus.specs.Entries.{Lit, Entry}
+use Rattle.calculus.specs.Sums.{sameLit, maxSummands}
 use Rattle.calculus.specs.Words.{Res, ok, bad, maxNumeral}
 use Rattle.nodes.specs.Nodes.{nameKind, kindAt}
 use Rattle.matching.specs.Entries.{Literals}

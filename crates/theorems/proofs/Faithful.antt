@@ -8,8 +8,10 @@ use native.Mathlib.Omega.{arith}
 use lib.Dec.{T, leb}
 use Rattle.calculus.specs.Grammar.{got, then, closeAt, headAt, term, items}
 use Rattle.calculus.specs.Terms.{Op, Term, app, cons, listed}
-use Rattle.calculus.specs.Words.{opening, closing, Word, mark, operator, word, tokenAt}
-use Rattle.calculus.specs.Writing.{maxNodes, maxDepth, termWords, termsWords, Has, nodes, nodesIn, some, fits, fitAll}
+use Rattle.calculus.specs.Words.{opening, closing, Word, mark, operator}
+use Rattle.calculus.specs.Tokens.{word, tokenAt}
+use Rattle.calculus.specs.Limits.{maxNodes, maxDepth, nodes, nodesIn, some, fits, fitAll}
+use Rattle.calculus.specs.Writing.{termWords, termsWords, Has}
 use Rattle.calculus.proofs.Booleans.{and-mk}
 use Rattle.theorems.proofs.Inversion.{off-got, got-value, got-place, got-nodes, then-got, item-got, Begun, a-leaf, an-app, head-got}
 

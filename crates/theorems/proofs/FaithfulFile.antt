@@ -10,8 +10,10 @@ use lib.ListN.{length, length-append}
 use Rattle.calculus.specs.Commands.{enough, newId, premise, premises, premisesAt, argsAt, ruleAmong, ruleOf, onRule, ruleAt, assumeAt, stepAt, commandAt, Read, whole, refused, begin, halt, onLead, leadAt, onCommand, onRead, commands, readBehind, readFile}
 use Rattle.calculus.specs.Grammar.{Reads, got, off, then, sameMark, expect, nameAt, closeAt, term, items}
 use Rattle.calculus.specs.Terms.{Term, sameName, Rule, part, Command, assume, step, listed, ruleText}
-use Rattle.calculus.specs.Words.{Res, ok, bad, Mark, opening, closing, cl-word, assume-word, step-word, rule-word, premises-word, args-word, Word, mark, operator, numeral, name, Token, ended, word, wrong, tokenAt}
-use Rattle.calculus.specs.Writing.{maxNodes, maxText, maxCommands, known, termWords, termsWords, nameWords, premisesWords, argsWords, commandWords, wordsOf, Has, nodes, nodesIn, fits, fitAll, allKnown, allowed, allowedBehind, commandNodes, allNodes, IsReadBehind, IsRead}
+use Rattle.calculus.specs.Words.{Res, ok, bad, Mark, opening, closing, cl-word, assume-word, step-word, rule-word, premises-word, args-word, Word, mark, operator, numeral, name}
+use Rattle.calculus.specs.Tokens.{Token, ended, word, wrong, tokenAt}
+use Rattle.calculus.specs.Limits.{maxNodes, maxText, maxCommands, known, nodes, nodesIn, fits, fitAll, allKnown, allowed, allowedBehind, commandNodes, allNodes}
+use Rattle.calculus.specs.Writing.{termWords, termsWords, nameWords, premisesWords, argsWords, commandWords, wordsOf, Has, IsReadBehind, IsRead}
 use Rattle.calculus.proofs.Booleans.{and-mk}
 use Rattle.theorems.proofs.Faithful.{has-append, has-word, has-one, has-as, Took, More, written}
 use Rattle.theorems.proofs.Inversion.{sameMark-eq, off-got, got-value, got-place, got-nodes, then-got, mark-got, option-got, name-got, cond-got, cond-not, item-got}

@@ -8,8 +8,10 @@ use native.Mathlib.Omega.{arith}
 use lib.Dec.{T, eqb→eq, leb, ltb, ltb→lt}
 use Rattle.calculus.specs.Grammar.{markOf, Reads, got, off, then, markNumber, sameMark, onMark, onOption, onName, onClose, Head, leaf, stop, limited, onOperator, onTerm, onHead, onItem}
 use Rattle.calculus.specs.Terms.{Op, Term, num, var}
-use Rattle.calculus.specs.Words.{Mark, opening, closing, cl-word, assume-word, step-word, rule-word, premises-word, args-word, Word, mark, operator, numeral, name, Token, ended, word, wrong, tokenAt}
-use Rattle.calculus.specs.Writing.{maxDepth, maxNodes, termWords, nodes, fits}
+use Rattle.calculus.specs.Words.{Mark, opening, closing, cl-word, assume-word, step-word, rule-word, premises-word, args-word, Word, mark, operator, numeral, name}
+use Rattle.calculus.specs.Tokens.{Token, ended, word, wrong, tokenAt}
+use Rattle.calculus.specs.Limits.{maxDepth, maxNodes, nodes, fits}
+use Rattle.calculus.specs.Writing.{termWords}
 
 mark-back : (m : Mark) → markOf (markNumber m) ≡ m
 unfolding markOf markNumber

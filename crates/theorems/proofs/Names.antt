@@ -9,7 +9,8 @@ use lib.IntN.{ℤ}
 use lib.ListN.{length, take, drop}
 use Rattle.calculus.specs.Bytes.{isBlank, isDigit, isLetter, inName, inWord, classOf, opens, closes}
 use Rattle.calculus.specs.Terms.{sameName, Command, assume, step, idOf}
-use Rattle.calculus.specs.Words.{Res, ok, bad, bind, Mark, opening, closing, Word, mark, operator, numeral, name, word, wrong, tokenAt, tokenFrom, tokenBehind, span, judged, wordOf, wordText, fixedOr, fixedWords, nameOf, nameBytes, isNameText, maxName, numeralFirst, numeralOf}
+use Rattle.calculus.specs.Words.{Res, ok, bad, bind, Mark, opening, closing, Word, mark, operator, numeral, name, wordOf, wordText, fixedOr, fixedWords, nameOf, nameBytes, isNameText, maxName, numeralFirst, numeralOf}
+use Rattle.calculus.specs.Tokens.{word, wrong, tokenAt, tokenFrom, tokenBehind, span, judged}
 use Rattle.calculus.specs.Writing.{commandWords, wordsOf, Has}
 use Rattle.calculus.proofs.Booleans.{and-l, and-r}
 use Rattle.theorems.proofs.Lines.{Clean, CleanIds}

@@ -12,7 +12,8 @@ use Rattle.calculus.specs.Equality.{sameTerm}
 use Rattle.calculus.specs.Matching.{orBad, asConstant, binary, isName, negOf, pair, argumentsOf}
 use Rattle.calculus.specs.Normalize.{Ctv, Flat, Rel, agree, agreeAll, collect, collectOne, constOf, cpNormalize, ctvIf, ctvNum, entryOf, flatOp, flats, flatten, halfCheck, join, joinAll, leafOf, lessAll, minus, negAll, negEntry, negIs, oneHalf, pushedConstant, pushEntry, pushEntries, relCheck, relOf, relation, termToCtv, twoHalves}
 use Rattle.calculus.specs.Rules.{single}
-use Rattle.calculus.specs.Sums.{maxSummands, Entry, Lit, all, count, entry, litOf, allNames, opp, splitSummation}
+use Rattle.calculus.specs.Entries.{Entry, Lit, entry}
+use Rattle.calculus.specs.Sums.{maxSummands, all, count, litOf, allNames, opp, splitSummation}
 use Rattle.calculus.specs.Terms.{Op, Term, Terms, add, app, conj, cons, eq, sameInteger, ge, gt, le, lt, mul, nil, num, sub, var}
 use Rattle.calculus.specs.Truth.{Assignment, Satisfies, allB, areArithmetic, areStatements, arithmeticOp, bit, isArithmetic, isStatement, lessZ, pairOf, prodZ, statementOp, sumZ, truth, truthOp, truths, two, val, valOp, vals}
 use Rattle.calculus.specs.Words.{Res, bad, bind, ok}

@@ -11,8 +11,9 @@ use Rattle.calculus.specs.Bytes.{isBlank, inWord, classOf, opens, closes}
 use Rattle.calculus.specs.Commands.{enough, newId, premise, premises, premisesAt, argsAt, ruleOf, onRule, ruleAt, assumeAt, stepAt, commandAt, Read, whole, refused, Lead, finish, begin, halt, onLead, leadAt, onCommand, onRead, commands, readBehind}
 use Rattle.calculus.specs.Grammar.{Reads, got, off, then, sameMark, onMark, expect, onOption, onName, nameAt, onClose, closeAt, Head, leaf, start, stop, limited, onOperator, onTerm, headAt, onHead, onItem, term, items}
 use Rattle.calculus.specs.Terms.{Op, Term, num, var, app, listed, Rule, Command, assume, step}
-use Rattle.calculus.specs.Words.{Res, ok, bad, Mark, opening, closing, cl-word, assume-word, step-word, rule-word, premises-word, args-word, Word, mark, operator, numeral, name, Token, ended, word, wrong, span, judged, wordOf, tokenFrom, tokenBehind, tokenAt}
-use Rattle.calculus.specs.Writing.{known, maxNodes, maxDepth, maxText, maxCommands, allNodes}
+use Rattle.calculus.specs.Words.{Res, ok, bad, Mark, opening, closing, cl-word, assume-word, step-word, rule-word, premises-word, args-word, Word, mark, operator, numeral, name, wordOf}
+use Rattle.calculus.specs.Tokens.{Token, ended, word, wrong, span, judged, tokenFrom, tokenBehind, tokenAt}
+use Rattle.calculus.specs.Limits.{known, maxNodes, maxDepth, maxText, maxCommands, allNodes}
 use Rattle.calculus.proofs.Booleans.{is-true}
 use Rattle.calculus.proofs.Tokens.{token-later}
 

@@ -10,7 +10,7 @@ use lib.IntN.{ℤ}
 use lib.ListN.{length, length-append}
 use Rattle.calculus.specs.Commands.{enough}
 use Rattle.calculus.specs.Terms.{Command}
-use Rattle.calculus.specs.Writing.{maxText, maxNodes, maxCommands, allNodes}
+use Rattle.calculus.specs.Limits.{maxText, maxNodes, maxCommands, allNodes}
 use Rattle.calculus.specs.OpbWords.{Literal, Relation, OpbWord, number-word, literal-word, relation-word, semicolon, OpbToken, ended, word, wrong, insideAt, outsideAt}
 use Rattle.calculus.specs.OpbWriting.{Summand, times, Constraint, compare, assumptionsOf, assumptionsBehind, assumptions, summandsWords, constraintWords, HasInside, HasConstraint, HasConstraints, IsOpb}
 use Rattle.calculus.specs.OpbReading.{OneRead, found, fault, onBegin, onLiteral, onNumber, onSemicolon, constantAt, constraintFrom, OpbRead, constraints, refusedAt, onOne, onOutside, constraintsFrom, readOpb}

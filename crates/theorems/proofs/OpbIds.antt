@@ -10,7 +10,8 @@ use lib.IntN.{ℤ, negℤ}
 use lib.ListN.{length, length-append}
 use Rattle.calculus.specs.Terms.{Command, assume, idOf, sameName}
 use Rattle.calculus.specs.Words.{decimal, magnitude, maxNumeral}
-use Rattle.calculus.specs.Writing.{known, fits, fitAll, some, allowed, allowedBehind, Limits, IsReadBehind}
+use Rattle.calculus.specs.Limits.{known, fits, fitAll, some, allowed, allowedBehind, Limits}
+use Rattle.calculus.specs.Writing.{IsReadBehind}
 use Rattle.calculus.specs.OpbWords.{Literal, plain, negated, atLeast, equal}
 use Rattle.calculus.specs.OpbWriting.{Summand, times, Constraint, compare, literalTerm, summandTerm, summandTerms, sumTerm, inequality, turned, constraintId, assumptionsOf, assumptionsBehind, assumptions, IsOpb}
 use Rattle.calculus.proofs.Booleans.{and-l, and-r, and-mk, or-elim, or-l, or-r}

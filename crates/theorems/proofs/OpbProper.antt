@@ -12,8 +12,9 @@ use Rattle.calculus.specs.Answers.{among, opbNumbers}
 use Rattle.calculus.specs.Bytes.{bytes, isBlank, classOf, opens, closes}
 use Rattle.calculus.specs.Commands.{enough, refused}
 use Rattle.calculus.specs.Terms.{sameName}
-use Rattle.calculus.specs.Words.{Res, ok, bad, bind, ensure, digits, valueFrom, leadingZero, maxNumeral, magnitude, negative, numeralOf, numeralFirst, span}
-use Rattle.calculus.specs.Writing.{maxText, maxNodes, maxCommands, allNodes}
+use Rattle.calculus.specs.Words.{Res, ok, bad, bind, ensure, digits, valueFrom, leadingZero, maxNumeral, magnitude, negative, numeralOf, numeralFirst}
+use Rattle.calculus.specs.Tokens.{span}
+use Rattle.calculus.specs.Limits.{maxText, maxNodes, maxCommands, allNodes}
 use Rattle.calculus.specs.OpbWords.{Literal, plain, negated, Relation, atLeast, equal, OpbWord, number-word, literal-word, relation-word, semicolon, OpbToken, ended, word, wrong, plusFirst, signedOf, isVariable, literalOf, objective, otherOf, inOpbWord, opbWordOf, opbJudged, opbFrom, opbBehind, insideAt, gap, placeAt, outsideAt}
 use Rattle.calculus.specs.OpbWriting.{Summand, times, Constraint, assumptions, assumptionsOf, constraintWords, HasConstraint}
 use Rattle.calculus.specs.OpbReading.{OneRead, found, fault, onBegin, onLiteral, onNumber, onSemicolon, constantAt, constraintFrom, OpbRead, constraints, refusedAt, onOne, onOutside, constraintsFrom, readOpb}

@@ -8,7 +8,8 @@ use lib.Dec.{T, eqb}
 use lib.IntN.{ℤ}
 use lib.ListN.{length, take, drop, length-drop}
 use Rattle.calculus.specs.Bytes.{isBlank, classOf, opens, closes}
-use Rattle.calculus.specs.Words.{Res, ok, bad, span}
+use Rattle.calculus.specs.Words.{Res, ok, bad}
+use Rattle.calculus.specs.Tokens.{span}
 use Rattle.calculus.specs.OpbWords.{Relation, OpbWord, semicolon, word, wrong, inOpbWord, opbWordOf, opbJudged, opbFrom, opbBehind, insideAt, Place, nextPlace, passed, gap, placeAt, outsideAt}
 use Rattle.calculus.specs.OpbWriting.{Summand, times, Constraint, compare, summandsWords, constraintWords, HasInside, HasConstraint, HasConstraints}
 use Rattle.calculus.proofs.Tokens.{span-le, span-some}

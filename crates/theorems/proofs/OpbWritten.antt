@@ -10,8 +10,9 @@ use lib.ListN.{length, drop, getD, length-append}
 use lib.Seq.{take-append-seam, drop-append-seam, drop-drop, drop-length}
 use Rattle.calculus.specs.Bytes.{bytes, isBlank, isDigit, isLetter, inName, inWord, classOf}
 use Rattle.calculus.specs.Terms.{sameName}
-use Rattle.calculus.specs.Words.{ok, bind, decimal, integerText, digits, maxNumeral, maxName, magnitude, negative, numeralOf, digitFirst, numeralFirst, span}
-use Rattle.calculus.specs.Writing.{maxText, maxNodes, maxCommands, allNodes}
+use Rattle.calculus.specs.Words.{ok, bind, decimal, integerText, digits, maxNumeral, maxName, magnitude, negative, numeralOf, digitFirst, numeralFirst}
+use Rattle.calculus.specs.Tokens.{span}
+use Rattle.calculus.specs.Limits.{maxText, maxNodes, maxCommands, allNodes}
 use Rattle.calculus.specs.OpbWords.{plain, negated, atLeast, equal, OpbWord, number-word, literal-word, relation-word, semicolon, ended, word, wrong, plusFirst, signedOf, isVariable, literalOf, objective, otherOf, inOpbWord, opbWordOf, opbJudged, opbFrom, opbBehind, insideAt, first, later, nextPlace, passed, gap, placeAt, outsideAt}
 use Rattle.calculus.specs.OpbWriting.{Constraint, constraintWords, assumptions, HasInside, HasConstraint, HasConstraints}
 use Rattle.calculus.specs.OpbReading.{constraints, readOpb}

@@ -11,8 +11,10 @@ use Rattle.calculus.specs.Bytes.{isBlank, inWord, classOf, opens, closes}
 use Rattle.calculus.specs.Commands.{enough, newId, premise, premises, premisesAt, argsAt, ruleAmong, ruleOf, onRule, ruleAt, assumeAt, stepAt, commandAt, Read, whole, refused, begin, halt, onLead, leadAt, onCommand, onRead, commands, readBehind, readFile}
 use Rattle.calculus.specs.Grammar.{Reads, got, off, then, sameMark, onMark, expect, onOption, onName, nameAt, closeAt, Head, leaf, stop, limited, onOperator, onTerm, headAt, onHead, onItem, term, items}
 use Rattle.calculus.specs.Terms.{Op, Term, num, var, app, sameName, Rule, Command, ruleText}
-use Rattle.calculus.specs.Words.{Res, ok, bad, bind, ensure, Mark, opening, closing, cl-word, assume-word, step-word, rule-word, premises-word, args-word, Word, mark, operator, numeral, name, Token, ended, word, wrong, tokenAt, tokenFrom, tokenBehind, span, judged, wordOf, wordText, fixedOr, fixedWords, nameOf, isNameText, maxName, numeralFirst, numeralOf, magnitude, negative, digits, leadingZero, valueFrom, maxNumeral}
-use Rattle.calculus.specs.Writing.{maxNodes, maxDepth, maxText, maxCommands, known, termWords, allNodes}
+use Rattle.calculus.specs.Words.{Res, ok, bad, bind, ensure, Mark, opening, closing, cl-word, assume-word, step-word, rule-word, premises-word, args-word, Word, mark, operator, numeral, name, wordOf, wordText, fixedOr, fixedWords, nameOf, isNameText, maxName, numeralFirst, numeralOf, magnitude, negative, digits, leadingZero, valueFrom, maxNumeral}
+use Rattle.calculus.specs.Tokens.{Token, ended, word, wrong, tokenAt, tokenFrom, tokenBehind, span, judged}
+use Rattle.calculus.specs.Limits.{maxNodes, maxDepth, maxText, maxCommands, known, allNodes}
+use Rattle.calculus.specs.Writing.{termWords}
 use Rattle.theorems.proofs.Faithful.{Took, More, written}
 use Rattle.theorems.proofs.FaithfulFile.{premise-got, premisesAt-has, argsAt-has, Stands, commandAt-has}
 use Rattle.calculus.proofs.Tokens.{token-later, has-long, has-inside, span-le}

@@ -9,8 +9,10 @@ use lib.IntN.{ℤ}
 use lib.ListN.{length, length-append}
 use Rattle.calculus.specs.Grammar.{Reads, got, then, markNumber, sameMark, onClose, closeAt, Head, leaf, stop, limited, onOperator, onTerm, headAt, onHead, onItem, term, items}
 use Rattle.calculus.specs.Terms.{Op, Term, Terms, num, var, app, nil, cons, listed}
-use Rattle.calculus.specs.Words.{opening, closing, Word, mark, operator, numeral, name, Token, word, tokenAt}
-use Rattle.calculus.specs.Writing.{maxNodes, maxDepth, termWords, termsWords, Has, nodes, nodesIn, some, fits, fitAll}
+use Rattle.calculus.specs.Words.{opening, closing, Word, mark, operator, numeral, name}
+use Rattle.calculus.specs.Tokens.{Token, word, tokenAt}
+use Rattle.calculus.specs.Limits.{maxNodes, maxDepth, nodes, nodesIn, some, fits, fitAll}
+use Rattle.calculus.specs.Writing.{termWords, termsWords, Has}
 use Rattle.calculus.proofs.Booleans.{and-l, and-r, is-true}
 use Rattle.theorems.proofs.Faithful.{has-as}
 use Rattle.calculus.proofs.Tokens.{token-later}

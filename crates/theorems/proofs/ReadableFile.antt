@@ -9,8 +9,10 @@ use lib.ListN.{length, length-append}
 use Rattle.calculus.specs.Commands.{enough, newId, premise, premises, premisesAt, argsAt, ruleAmong, ruleOf, onRule, ruleAt, assumeAt, stepAt, commandAt, Read, whole, refused, begin, halt, onLead, leadAt, onCommand, onRead, commands, readBehind, readFile}
 use Rattle.calculus.specs.Grammar.{Reads, got, off, then, markNumber, sameMark, onMark, expect, onOption, onName, nameAt, onClose, closeAt, onItem, term, items}
 use Rattle.calculus.specs.Terms.{Term, sameName, Rule, addition, multiplication, division, saturation, literal, normalize, transfer, part, Command, assume, step, listed, ruleText}
-use Rattle.calculus.specs.Words.{ok, Mark, opening, closing, cl-word, assume-word, step-word, rule-word, premises-word, args-word, Word, mark, name, Token, ended, word, tokenAt}
-use Rattle.calculus.specs.Writing.{maxNodes, maxText, maxCommands, known, termWords, termsWords, nameWords, premisesWords, argsWords, commandWords, wordsOf, Has, nodes, nodesIn, fits, fitAll, allKnown, allowed, allowedBehind, commandNodes, allNodes, IsReadBehind, IsRead}
+use Rattle.calculus.specs.Words.{ok, Mark, opening, closing, cl-word, assume-word, step-word, rule-word, premises-word, args-word, Word, mark, name}
+use Rattle.calculus.specs.Tokens.{Token, ended, word, tokenAt}
+use Rattle.calculus.specs.Limits.{maxNodes, maxText, maxCommands, known, nodes, nodesIn, fits, fitAll, allKnown, allowed, allowedBehind, commandNodes, allNodes}
+use Rattle.calculus.specs.Writing.{termWords, termsWords, nameWords, premisesWords, argsWords, commandWords, wordsOf, Has, IsReadBehind, IsRead}
 use Rattle.calculus.proofs.Booleans.{and-l, and-r, is-true}
 use Rattle.theorems.proofs.Readable.{has-split, unlisted-back, got-eq, item-close, completes}
 use Rattle.theorems.proofs.Faithful.{has-as, terms-listed}

@@ -10,7 +10,8 @@ use lib.Signed.{_≤ℤ_}
 use Rattle.integer.proofs.Parts.{dn, up, mul-parts, add-parts, int}
 use Rattle.calculus.specs.Equality.{sameOp}
 use Rattle.calculus.specs.Matching.{orBad, asConstant, binary, isName, negOf, pair, argumentsOf}
-use Rattle.calculus.specs.Sums.{maxSummands, Entry, Inequality, Lit, all, count, entry, litIf, litOf, loneConstant, allNames, opp, put, summands, unwrapInequality, sumOr, pbSum, summand, sameLit, splitSummation, childrenOr}
+use Rattle.calculus.specs.Entries.{Entry, Inequality, Lit, entry}
+use Rattle.calculus.specs.Sums.{maxSummands, all, count, litIf, litOf, loneConstant, allNames, opp, put, summands, unwrapInequality, sumOr, pbSum, summand, sameLit, splitSummation, childrenOr}
 use Rattle.calculus.specs.Terms.{Op, Term, Terms, add, app, cons, sameInteger, ge, le, mul, nil, num, sub, var}
 use Rattle.calculus.specs.Truth.{Assignment, Satisfies, areArithmetic, arithmeticOp, bit, isArithmetic, isStatement, lessZ, pairOf, prodZ, statementOp, sumZ, truth, truthOp, two, val, valOp, vals}
 use Rattle.calculus.specs.Words.{Res, bad, bind, ensure, ok}

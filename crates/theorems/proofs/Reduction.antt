@@ -10,7 +10,8 @@ use Rattle.integer.specs.Integers.{minZ}
 use Rattle.integer.proofs.Laws.{min-l, min-r, min-glb, min-comm}
 use Rattle.integer.proofs.Parts.{int, link, ‹_›, lit, _⊕_, _⊖_}
 use Rattle.calculus.specs.Equality.{sameTerm}
-use Rattle.calculus.specs.Sums.{Lit, Entry, entry, sameLit, has, get, opp, keep, reducedAt, slackAt, reduceBy, slackBy, reduceSum}
+use Rattle.calculus.specs.Entries.{Lit, Entry, entry}
+use Rattle.calculus.specs.Sums.{sameLit, has, get, opp, keep, reducedAt, slackAt, reduceBy, slackBy, reduceSum}
 use Rattle.calculus.proofs.Booleans.{beq-not}
 use Rattle.theorems.proofs.SumLaws.{scale, scale-add, Distinct, total, total-ext, recoef, distinct-recoef, get-recoef}
 

@@ -13,7 +13,8 @@ use Rattle.calculus.specs.Marks.{applyRule, numberOf}
 use Rattle.calculus.specs.Matching.{orBad, asConstant, binary}
 use Rattle.calculus.specs.Normalize.{Ctv, entryOf, constOf, termToCtv, collectOne, collect, halfCheck, relOf, relation, oneHalf, twoHalves, relCheck, cpNormalize}
 use Rattle.calculus.specs.Rules.{single, one, both, addCheck, cpAddition, byCheck, cpMultiplication, cpDivision, satCheck, cpSaturation, litProd, cpLiteral}
-use Rattle.calculus.specs.Sums.{Entry, Inequality, summand, summands, sumOr, pbSum, splitSummation, loneConstant, unwrapInequality}
+use Rattle.calculus.specs.Entries.{Entry, Inequality}
+use Rattle.calculus.specs.Sums.{summand, summands, sumOr, pbSum, splitSummation, loneConstant, unwrapInequality}
 use Rattle.calculus.specs.Terms.{Op, Term, Terms, num, var, app, nil, cons, add, sub, mul, ge, gt, le, lt, eq, conj, Rule, addition, multiplication, division, saturation, literal, normalize, transfer, part}
 use Rattle.calculus.specs.Words.{Res, ok, bad, bind, ensure}
 use Rattle.calculus.proofs.Booleans.{and-l, and-r}

@@ -14,7 +14,8 @@ use Rattle.calculus.specs.Equality.{sameTerm}
 use Rattle.calculus.specs.Links.{cpPart, cpTransfer, index, nth}
 use Rattle.calculus.specs.Matching.{orBad, asConstant, binary, isName, negOf, argumentsOf}
 use Rattle.calculus.specs.Rules.{addCheck, both, byCheck, coefficientsAre, cpAddition, cpDivision, cpLiteral, cpMultiplication, cpSaturation, ge0, litPlain, litPlainIf, litProd, none, one, satCheck, single, timesZ, zerosFaceZeros}
-use Rattle.calculus.specs.Sums.{Entry, Inequality, Lit, Reduced, all, coefficientsBy, entry, get, has, litIf, litOf, addSums, allNames, put, unwrapInequality, reduceSum, sameKeys, sameLit, keysIn}
+use Rattle.calculus.specs.Entries.{Entry, Inequality, Lit, entry}
+use Rattle.calculus.specs.Sums.{Reduced, all, coefficientsBy, get, has, litIf, litOf, addSums, allNames, put, unwrapInequality, reduceSum, sameKeys, sameLit, keysIn}
 use Rattle.calculus.specs.Terms.{Term, Terms, add, app, conj, cons, eq, sameInteger, ge, gt, le, lt, mul, nil, num, sub, var}
 use Rattle.calculus.specs.Truth.{Assignment, Satisfies, allB, areArithmetic, areStatements, arithmeticOp, bit, isArithmetic, isStatement, pairOf, statementOp, truth, truthOp, truths, two, val, vals}
 use Rattle.calculus.specs.Words.{Res, bad, ensure, ok}

@@ -13,7 +13,8 @@ use Rattle.calculus.specs.Marks.{run}
 use Rattle.calculus.specs.Report.{lineText, totalsText, reportLines, reportRead, reportOf, minReport, minTable, written}
 use Rattle.calculus.specs.Terms.{Command, assume, step}
 use Rattle.calculus.specs.Truth.{Assignment, Models, Satisfies, clauseOf, clausesOf}
-use Rattle.calculus.specs.Writing.{maxNodes, maxCommands, allNodes, IsReadBehind, IsRead}
+use Rattle.calculus.specs.Limits.{maxNodes, maxCommands, allNodes}
+use Rattle.calculus.specs.Writing.{IsReadBehind, IsRead}
 use Rattle.theorems.proofs.FaithfulFile.{faithful-behind}
 use Rattle.theorems.proofs.ReadableFile.{complete-behind}
 use Rattle.theorems.proofs.Demand.{demand3}

@@ -6,7 +6,8 @@ use lib.Dec.{T}
 use lib.IntN.{ℤ, pos, _+ℤ_}
 use Rattle.integer.proofs.Parts.{add-parts, int}
 use Rattle.calculus.specs.Equality.{sameTerm}
-use Rattle.calculus.specs.Sums.{Entry, Lit, entry, get, has, put, sameLit}
+use Rattle.calculus.specs.Entries.{Entry, Lit, entry}
+use Rattle.calculus.specs.Sums.{get, has, put, sameLit}
 use Rattle.calculus.proofs.Booleans.{and-l, and-r, and-mk, beq-eq, beq-refl}
 use Rattle.calculus.proofs.TermLaws.{sameTerm-eq, sameTerm-refl}
 

@@ -11,8 +11,10 @@ use lib.Seq.{take-append-seam, drop-append-seam, drop-drop, drop-length}
 use Rattle.calculus.specs.Bytes.{isBlank, isDigit, isLetter, inName, inWord, classOf}
 use Rattle.calculus.specs.Commands.{whole, readFile}
 use Rattle.calculus.specs.Terms.{Op, add, sub, mul, ge, gt, le, lt, eq, conj, Term, Terms, num, var, app, nil, cons, listed, Rule, addition, multiplication, division, saturation, literal, normalize, transfer, part, ruleText, Command, assume, step}
-use Rattle.calculus.specs.Words.{ok, bind, Mark, opening, closing, cl-word, assume-word, step-word, rule-word, premises-word, args-word, Word, mark, operator, numeral, name, decimal, integerText, operatorText, markText, wordText, digits, maxNumeral, magnitude, negative, numeralOf, digitFirst, numeralFirst, nameBytes, isNameText, wordOf, word, wrong, span, judged, tokenFrom, tokenBehind, tokenAt}
-use Rattle.calculus.specs.Writing.{termWords, termsWords, nameWords, premisesWords, argsWords, commandWords, wordsOf, Has, Spells, maxText, Limits}
+use Rattle.calculus.specs.Words.{ok, bind, Mark, opening, closing, cl-word, assume-word, step-word, rule-word, premises-word, args-word, Word, mark, operator, numeral, name, decimal, integerText, operatorText, markText, wordText, digits, maxNumeral, magnitude, negative, numeralOf, digitFirst, numeralFirst, nameBytes, isNameText, wordOf}
+use Rattle.calculus.specs.Tokens.{word, wrong, span, judged, tokenFrom, tokenBehind, tokenAt}
+use Rattle.calculus.specs.Limits.{maxText, Limits}
+use Rattle.calculus.specs.Writing.{termWords, termsWords, nameWords, premisesWords, argsWords, commandWords, wordsOf, Has, Spells}
 use Rattle.calculus.proofs.Booleans.{or-elim, or-l, or-r, and-l, and-r, and-mk, is-true, is-false}
 use Rattle.theorems.proofs.ReadableFile.{complete}
 use Rattle.calculus.proofs.Computing.{computing}
