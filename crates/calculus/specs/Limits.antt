@@ -1,10 +1,11 @@
--- The limits of a file, and what may stand in a command below others: ids, premises, levels (01, section 1).
+-- The limits of a file, and what may stand in a command below others: ids, premises, levels, the words of pol lines (01, section 1; 02, No. 2).
 use mathlib.Core.Bool.{Bool, true, false, not, _&&_, _||_}
 use mathlib.Core.List.{List, [], _∷_, _++_}
 use Prim.Native.Nat.{ℕ, suc, _+_, _≤_}
 use lib.Dec.{T, leb}
 use lib.ListN.{length}
-use Rattle.calculus.specs.Terms.{Term, Terms, num, var, app, nil, cons, listed, Command, assume, step, idOf, sameName}
+use Rattle.calculus.specs.Bytes.{bytes}
+use Rattle.calculus.specs.Terms.{Term, Terms, num, var, app, nil, cons, listed, PolWord, line-word, plain-word, negated-word, plus-word, saturate-word, times-word, over-word, Command, assume, step, idOf, sameName}
 
 -- bytes of a text, nodes, levels and commands
 abbrev pub maxText : ℕ
@@ -66,6 +67,30 @@ known (c ∷ cs) d = sameName (idOf c) d || known cs d
 unfoldable pub allKnown : List Command → List (List ℕ) → Bool
 allKnown cs [] = true
 allKnown cs (d ∷ ds) = known cs d && allKnown cs ds
+
+-- in pol lines `d` and `s` are always operations
+unfoldable pub operand : List ℕ → Bool
+operand x = not (sameName (bytes "d") x) && not (sameName (bytes "s") x)
+
+-- a name is an id where one is defined above, and a literal where none is
+unfoldable pub allowedWord : (List ℕ → Bool) → PolWord → Bool
+allowedWord above (line-word d) = operand d && above d
+allowedWord above (plain-word x) = operand x && not (above x)
+allowedWord above (negated-word x) = true
+allowedWord above plus-word = true
+allowedWord above saturate-word = true
+allowedWord above (times-word m) = true
+allowedWord above (over-word m) = true
+
+-- each of the words
+unfoldable pub allowedWords : (List ℕ → Bool) → List PolWord → Bool
+allowedWords above [] = true
+allowedWords above (w ∷ ws) = allowedWord above w && allowedWords above ws
+
+-- at least one
+unfoldable pub someWord : List PolWord → Bool
+someWord [] = false
+someWord (w ∷ ws) = true
 
 -- a command below the commands cs: its id is new, its premises are defined above, its terms fit
 unfoldable pub allowed : List Command → Command → Bool

@@ -10,6 +10,8 @@ use lib.ListN.{length, getD, set, replicate, length-replicate}
 use lib.Seq.{getD-set-same, getD-set-other}
 use Rattle.calculus.specs.Marks.{numberOf, plainOf}
 use Rattle.calculus.specs.Words.{ok}
+use Rattle.calculus.specs.Limits.{maxNodes}
+use Rattle.nodes.specs.Nodes.{capacity}
 use Rattle.nodes.proofs.Tables.{by-node}
 use Rattle.matching.specs.Matched.{answerOf}
 use Rattle.matching.specs.declared.Answer.{Answer}
@@ -79,11 +81,11 @@ pub record Kept (cs₀ : List ℤ) (ks₀ sl₀ : List ℕ) (cs : List ℤ) (ks 
 pub kept-refl : (cs : List ℤ) (ks sl : List ℕ) → Kept cs ks sl cs ks sl
 kept-refl cs ks sl = record { coefficients = refl; keys = refl; slots = refl }
 
-pub kept-rooms : {cs₀ : List ℤ} {ks₀ sl₀ : List ℕ} {cs : List ℤ} {ks sl : List ℕ} → Kept cs₀ ks₀ sl₀ cs ks sl → Rooms cs₀ ks₀ sl₀ → Rooms cs ks sl
+pub kept-rooms : {t : List ℕ} {cs₀ : List ℤ} {ks₀ sl₀ : List ℕ} {cs : List ℤ} {ks sl : List ℕ} → Kept cs₀ ks₀ sl₀ cs ks sl → Rooms t cs₀ ks₀ sl₀ → Rooms t cs ks sl
 kept-rooms k = rooms-kept (k .coefficients) (k .keys) (k .slots)
 
-pub rooms-of : (z : ℤ) (a b : ℕ) → Rooms (replicate 3072 z) (replicate 3072 a) (replicate 16384 b)
-rooms-of z a b = record {
+pub rooms-of : (t : List ℕ) (z : ℤ) (a b : ℕ) → capacity t ≤ maxNodes → Rooms t (replicate 3072 z) (replicate 3072 a) (replicate 16384 b)
+rooms-of t z a b h = record {
   coefficients = omega (arith, length-replicate 3072 z);
   keys = omega (arith, length-replicate 3072 a);
   slots = omega (arith, length-replicate 16384 b);

@@ -30,7 +30,7 @@ pub wrote-cut : (o s : List ℕ) {d e : List ℕ} {r : ℕ} → maxText < length
 wrote-cut o s {d} {e} {r} h W = subst (λ (z : List ℕ). Wrote d 0 z e r) (joined-cut o s h) W
 
 -- what read_both asks of the bytes that were written
-pub both-ready : (o s : List ℕ) {d e : List ℕ} (t w : List ℕ) {r : ℕ} → length o ≤ maxText → Wrote d 0 (joined o s) e r → minTable ≤ length t → allWords ≤ length w → BothReady o s (take (r - 0) e) t w
+pub both-ready : (o s : List ℕ) {d e : List ℕ} (t w : List ℕ) {r : ℕ} → length o ≤ maxText → Wrote d 0 (joined o s) e r → length t ≡ minTable → allWords ≤ length w → BothReady o s (take (r - 0) e) t w
 both-ready o s {d} {e} t w {r} h W room words =
     let z : r - 0 ≡ r = omega arith in
     record { short = h; joined = ap (λ (i : ℕ). take i e) z ∙ wrote-front W; room = room; words = words }

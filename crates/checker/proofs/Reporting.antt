@@ -76,7 +76,7 @@ module _ (s t u w x : List ℕ) (r : Whole) (R : ReadsFile s t u w x r) where
       subst (λ (z : List ℕ). Wrote d 0 z e m) (sym (ap reportRead (subst (ReadsFile s t u w x) q R .0))) W
 
   -- tables of these sizes are not too small
-  pub report-small : r ≡ Small → minTable ≤ length t → allWords ≤ length w → {A : Type 0} → A
+  pub report-small : r ≡ Small → length t ≡ minTable → allWords ≤ length w → {A : Type 0} → A
   report-small q a b {A} = absurd (subst (ReadsFile s t u w x) q R .0 a b)
 
 -- ---- the report of both texts, by what the reader answers

@@ -30,7 +30,8 @@ ghost use Rattle.calculus.specs.Marks.{numberOf, plainOf};
 ghost use Rattle.calculus.specs.OpbClaim.{SoundBoth};
 ghost use Rattle.calculus.specs.OpbReport.{reportBoth, writtenBoth};
 ghost use Rattle.calculus.specs.Report.{minReport, minTable, reportLines, reportOf, written};
-ghost use Rattle.calculus.specs.Limits.{maxText};
+ghost use Rattle.calculus.specs.Limits.{maxText, maxNodes};
+ghost use Rattle.nodes.specs.Nodes.{capacity};
 ghost use Rattle.matching.specs.Matched.{answerOf};
 ghost use Rattle.opb_reader.specs.Ids.{joined};
 ghost use Rattle.opb_reader.specs.Reading.{BothReady};
@@ -81,7 +82,7 @@ fn answer_of(
     slots: &mut [u16],
 ) -> Answer
     requires { ⌜ Filed (now nodes) (now commands) n × (k < n) ⌝ }
-    requires { ⌜ Rooms (now coeffs) (now keys) (now slots) ⌝ }
+    requires { ⌜ Rooms (now nodes) (now coeffs) (now keys) (now slots) ⌝ }
     ensures { λ r. ⌜ AnswerIs (now (nodes .entry)) (now (commands .entry)) n k r ⌝ }
 {
     if word_of(commands, k, KIND_WORD) == 0 {
@@ -121,7 +122,7 @@ fn answer_all(
 )
     requires { ⌜ Filed (now nodes) (now commands) n ⌝ }
     requires { ⌜ (n ≤ length (now numbers)) × (n ≤ length (now plains)) ⌝ }
-    requires { ⌜ Rooms (now coeffs) (now keys) (now slots) ⌝ }
+    requires { ⌜ Rooms (now nodes) (now coeffs) (now keys) (now slots) ⌝ }
     ensures { λ _. ⌜ AnswersAre (now (nodes .entry)) (now (commands .entry)) n n (now (numbers .exit)) (now (plains .exit)) ⌝ }
 {
     let mut k = 0;
@@ -140,7 +141,7 @@ fn answer_commands(
     numbers: &mut [u8],
     plains: &mut [bool],
 )
-    requires { ⌜ Filed (now nodes) (now commands) n ⌝ }
+    requires { ⌜ Filed (now nodes) (now commands) n × (capacity (now nodes) ≤ maxNodes) ⌝ }
     requires { ⌜ (n ≤ length (now numbers)) × (n ≤ length (now plains)) ⌝ }
     ensures { λ _. ⌜ AnswersAre (now (nodes .entry)) (now (commands .entry)) n n (now (numbers .exit)) (now (plains .exit)) ⌝ }
 {
@@ -235,7 +236,7 @@ fn refuted_by(nodes: &[u32], commands: &[u16], n: usize, marks: &[bool]) -> bool
 // ---- the report
 // Writes the report of a file in the tables: answers, marks, whether it is refuted, then the lines.
 fn report_file(text: &[u8], nodes: &[u32], commands: &[u16], n: usize, report: &mut [u8]) -> usize
-    requires { ⌜ File (now text) (now nodes) (now commands) n × (minReport ≤ length (now report)) ⌝ }
+    requires { ⌜ File (now text) (now nodes) (now commands) n × (minReport ≤ length (now report)) × (capacity (now nodes) ≤ maxNodes) ⌝ }
     ensures { λ r. ⌜ Wrote (now (report .entry)) 0 (reportLines (commandLines (now (text .entry)) (now (nodes .entry)) (now (commands .entry)) n)) (now (report .exit)) r ⌝ }
 {
     let mut numbers = [0u8; MAX_COMMANDS];
@@ -258,7 +259,7 @@ fn report_file(text: &[u8], nodes: &[u32], commands: &[u16], n: usize, report: &
 
 // Reads a text and writes its report.
 fn report_text(text: &[u8], nodes: &mut [u32], commands: &mut [u16], report: &mut [u8]) -> usize
-    requires { ⌜ (minReport ≤ length (now report)) × (minTable ≤ length (now nodes)) × (allWords ≤ length (now commands)) ⌝ }
+    requires { ⌜ (minReport ≤ length (now report)) × (length (now nodes) ≡ minTable) × (allWords ≤ length (now commands)) ⌝ }
     ensures { λ r. ⌜ Wrote (now (report .entry)) 0 (reportOf (now (text .entry))) (now (report .exit)) r ⌝ }
 {
     match read_file(text, nodes, commands) {
@@ -286,7 +287,7 @@ pub extern "C" fn cutting_planes_check(text: &[u8], nodes: &mut [u32], report: &
         return 0;
     }
     let mut commands = [0u16; COMMAND_WORDS];
-    report_text(text, nodes, &mut commands, report)
+    report_text(text, &mut nodes[0..NODE_WORDS], &mut commands, report)
 }
 
 // ---- an OPB text before it
@@ -330,7 +331,7 @@ fn report_both(
     commands: &mut [u16],
     report: &mut [u8],
 ) -> usize
-    requires { ⌜ (minReport ≤ length (now report)) × (minTable ≤ length (now nodes)) × (allWords ≤ length (now commands)) ⌝ }
+    requires { ⌜ (minReport ≤ length (now report)) × (length (now nodes) ≡ minTable) × (allWords ≤ length (now commands)) ⌝ }
     ensures { λ r. ⌜ Wrote (now (report .entry)) 0 (reportBoth (now (opb .entry)) (now (text .entry))) (now (report .exit)) r ⌝ }
 {
     if MAX_TEXT < opb.len() {
@@ -363,5 +364,5 @@ pub extern "C" fn cutting_planes_check_opb(
         return 0;
     }
     let mut commands = [0u16; COMMAND_WORDS];
-    report_both(opb, text, nodes, &mut commands, report)
+    report_both(opb, text, &mut nodes[0..NODE_WORDS], &mut commands, report)
 }

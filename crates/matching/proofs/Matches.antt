@@ -18,11 +18,10 @@ use Rattle.calculus.specs.Equality.{opNum, opOf, sameOp}
 use Rattle.calculus.specs.Matching.{asConstant, isName, argumentsOf, pair, binary, negOf}
 use Rattle.calculus.specs.Sums.{litIf, litOf, childrenOr, splitSummation}
 use Rattle.calculus.specs.Terms.{Term, var, app, listed, sameInteger}
-use Rattle.calculus.specs.Limits.{maxNodes}
 use Rattle.calculus.specs.Words.{ok, bad}
 use Rattle.calculus.proofs.TermLaws.{sameInteger-refl}
 use Rattle.calculus.proofs.Booleans.{is-true}
-use Rattle.nodes.specs.Nodes.{plusKind, minusKind, nameKind, kindAt, firstAt, secondAt, childrenAt, decode, Below, Node}
+use Rattle.nodes.specs.Nodes.{maxCapacity, plusKind, minusKind, nameKind, kindAt, firstAt, secondAt, childrenAt, decode, Below, Node}
 use Rattle.nodes.proofs.Comparing.{opNum-opOf}
 use Rattle.nodes.proofs.Tables.{decode-application, decode-plus, decode-minus, decode-name, below-at, below-more}
 use Rattle.matching.specs.Matched.{term, Inner, ConstantAt, PairAt, NegationAt, keyOf, variableOf, negatedOf, litAt, LiteralIs, NumberIs, KeyIs, SplitIs}
@@ -35,7 +34,7 @@ pub node-room : {t : List ℕ} {i : ℕ} → Node t i → 3 * i + 2 < length t
 node-room N = omega (arith, N .below, N .table .few, N .table .room)
 
 -- a node's number is small
-pub node-few : {t : List ℕ} {i : ℕ} → Node t i → i ≤ maxNodes
+pub node-few : {t : List ℕ} {i : ℕ} → Node t i → i ≤ maxCapacity
 node-few N = omega (arith, N .below, N .table .few)
 
 -- what stands before a node is one

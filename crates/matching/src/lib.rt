@@ -1,5 +1,4 @@
 // Matching terms of the node table as the Rust's `match_term!` does: numerals, `(op a b)`, `(- 1 v)`, sums; and literals as keys.
-use nodes::CHILD_BASE;
 use nodes::MINUS_KIND;
 use nodes::NAME_KIND;
 use nodes::PLUS_KIND;
@@ -9,8 +8,7 @@ ghost use mathlib.Core.List.{List, [], _∷_};
 ghost use Prim.Native.Nat.{ℕ, _+_, _*_, _/_, _≤_, _<_};
 ghost use lib.ListN.{length};
 ghost use Rattle.calculus.specs.Matching.{isName};
-ghost use Rattle.calculus.specs.Limits.{maxNodes};
-ghost use Rattle.nodes.specs.Nodes.{plusKind, firstAt, decode, Node};
+ghost use Rattle.nodes.specs.Nodes.{plusKind, maxCapacity, firstAt, decode, Node};
 ghost use Rattle.matching.specs.Entries.{Variables, NamesAre};
 ghost use Rattle.matching.specs.Matched.{ConstantIs, PairIs, NegationIs, SplitIs, keyOf, variableOf, negatedOf, LiteralIs, NumberIs, KeyIs};
 ghost use Rattle.matching.specs.Places.{maxEntries, maxPlace, placed};
@@ -185,7 +183,7 @@ pub fn negation_of(nodes: &[u32], v: u32) -> Negation
 // ---- literals as keys: twice the variable's node, and one more where the literal is negated
 // The key of a literal.
 pub fn key_of(variable: u32, negated: bool) -> u32
-    requires { ⌜ variable ≤ maxNodes ⌝ }
+    requires { ⌜ variable ≤ maxCapacity ⌝ }
     ensures { λ r. ⌜ r ≡ keyOf variable negated ⌝ }
 {
     if negated {
@@ -211,7 +209,7 @@ pub fn negated_of(key: u32) -> bool
 
 // The key of the opposite literal.
 pub fn opposite(key: u32) -> u32
-    requires { ⌜ variableOf key ≤ maxNodes ⌝ }
+    requires { ⌜ variableOf key ≤ maxCapacity ⌝ }
     ensures { λ r. ⌜ r ≡ keyOf (variableOf key) (not (negatedOf key)) ⌝ }
 {
     key_of(variable_of(key), !negated_of(key))

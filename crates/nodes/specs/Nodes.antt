@@ -1,16 +1,15 @@
 -- The node table: how the terms of a text stand in its words. Node i is the words 3 i, 3 i + 1, 3 i + 2: its kind and two more.
--- Behind the room for 4,096 nodes stand the child words; the children of an application are one part of them.
+-- Behind the room for the nodes stand the child words, one for each; the children of an application are one part of them.
 use mathlib.Core.Path.{_≡_}
 use mathlib.Core.Bool.{true, false, cond}
 use mathlib.Core.List.{List, [], _∷_, _++_, map}
-use Prim.Native.Nat.{ℕ, zero, suc, _+_, _-_, _*_, _≤_, _<_}
+use Prim.Native.Nat.{ℕ, zero, suc, _+_, _-_, _*_, _/_, _≤_, _<_}
 use lib.Dec.{ltb, eqb}
 use lib.IntN.{pos}
 use lib.ListN.{length, getD, take, drop, set}
 use lib.Seq.{slice}
 use Rattle.integer.specs.Integers.{signed}
 use Rattle.calculus.specs.Equality.{opOf}
-use Rattle.calculus.specs.Report.{minTable}
 use Rattle.calculus.specs.Terms.{Term, num, var, app, listed}
 use Rattle.calculus.specs.Words.{maxNumeral, maxName}
 use Rattle.calculus.specs.Limits.{maxNodes}
@@ -26,9 +25,18 @@ minusKind = 10
 abbrev pub nameKind : ℕ
 nameKind = 11
 
+-- ---- a table by its length
+-- the nodes that it has room for: three words and a child word each
+abbrev pub capacity : List ℕ → ℕ
+capacity t = length t / 4
+
+-- of any table: node numbers fit words of 16 bits
+abbrev pub maxCapacity : ℕ
+maxCapacity = 32768
+
 -- the first child word
-abbrev pub childBase : ℕ
-childBase = 12288
+abbrev pub childBase : List ℕ → ℕ
+childBase t = 3 * capacity t
 
 -- the words of node i
 abbrev pub kindAt : List ℕ → ℕ → ℕ
@@ -42,7 +50,7 @@ secondAt t i = getD t (3 * i + 2) 0
 
 -- k child words from number a on
 unfoldable pub childrenAt : List ℕ → ℕ → ℕ → List ℕ
-childrenAt t a k = take k (drop (childBase + a) t)
+childrenAt t a k = take k (drop (childBase t + a) t)
 
 -- ---- what a node says
 -- a node of this kind with the words a and b, in the text s: an application of xs, which are k children from number a on;
@@ -78,8 +86,9 @@ Below m (x ∷ xs) = (x < m) × Below m xs
 
 -- an application has children, they are child words in use, and they are nodes before it; numerals are in range
 pub record Table (t : List ℕ) (n c : ℕ) : Type 0 where
-  pub room : minTable ≤ length t
-  pub few : n ≤ maxNodes
+  pub room : maxNodes ≤ capacity t
+  pub wide : capacity t ≤ maxCapacity
+  pub few : n ≤ capacity t
   pub used : c ≤ n
   pub some : (i : ℕ) → i < n → kindAt t i < plusKind → 1 ≤ secondAt t i
   pub inside : (i : ℕ) → i < n → kindAt t i < plusKind → firstAt t i + secondAt t i ≤ c
@@ -121,4 +130,4 @@ put t n kind a b = set (set (set t (3 * n) kind) (3 * n + 1) a) (3 * n + 2) b
 pub record Kept (t u : List ℕ) (n c : ℕ) : Type 0 where
   pub long : length u ≡ length t
   pub nodes : (j : ℕ) → j < 3 * n → getD u j 0 ≡ getD t j 0
-  pub children : (j : ℕ) → j < c → getD u (childBase + j) 0 ≡ getD t (childBase + j) 0
+  pub children : (j : ℕ) → j < c → getD u (childBase t + j) 0 ≡ getD t (childBase t + j) 0

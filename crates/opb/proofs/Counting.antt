@@ -8,19 +8,20 @@ use lib.IntN.{ℤ, negℤ}
 use lib.ListN.{length}
 use Rattle.calculus.specs.Limits.{nodes, nodesIn, commandNodes, allNodes}
 use Rattle.calculus.specs.OpbWords.{plain, negated, Relation, atLeast, equal}
-use Rattle.calculus.specs.OpbWriting.{Summand, times, compare, literalTerm, summandTerm, summandTerms, sumTerm, inequality, turned, assumptionsOf}
+use Rattle.calculus.specs.Entries.{litTerm, entryTerm, entryTerms, sumTerm, inequalityTerm}
+use Rattle.calculus.specs.OpbWriting.{Summand, times, compare, keyOf, entryOf, entriesOf, inequality, turned, assumptionsOf}
 use Rattle.opb.specs.Counts.{resulting, negations, sumNodes, inequalityNodes}
 use Rattle.opb.specs.Tokens.{relationOf}
 
 -- ---- summands
-pub summands-nodes : (xs : List Summand) → nodesIn (summandTerms xs) ≡ 3 * length xs + 2 * negations xs
-unfolding nodes summandTerms summandTerm literalTerm negations
+pub summands-nodes : (xs : List Summand) → nodesIn (entryTerms (entriesOf xs)) ≡ 3 * length xs + 2 * negations xs
+unfolding nodes entryTerms entriesOf entryTerm entryOf litTerm keyOf negations
 summands-nodes [] = refl
 summands-nodes (times k (plain x) ∷ xs) = omega (arith, summands-nodes xs)
 summands-nodes (times k (negated x) ∷ xs) = omega (arith, summands-nodes xs)
 
-pub sum-nodes : (xs : List Summand) → nodes (sumTerm xs) ≡ sumNodes (length xs) (negations xs)
-unfolding nodes sumTerm summandTerms sumNodes
+pub sum-nodes : (xs : List Summand) → nodes (sumTerm (entriesOf xs)) ≡ sumNodes (length xs) (negations xs)
+unfolding nodes sumTerm entryTerms entriesOf sumNodes
 sum-nodes [] = refl
 sum-nodes (x ∷ []) = omega (arith, summands-nodes (x ∷ []))
 sum-nodes (x ∷ (y ∷ xs)) = ap suc (summands-nodes (x ∷ (y ∷ xs)))
@@ -38,7 +39,7 @@ turned-negations (times k (negated x) ∷ xs) = ap suc (turned-negations xs)
 
 -- ---- inequalities
 pub inequality-nodes : (xs : List Summand) (k : ℤ) → nodes (inequality xs k) ≡ inequalityNodes (length xs) (negations xs)
-unfolding nodes inequality inequalityNodes
+unfolding nodes inequality inequalityTerm inequalityNodes
 inequality-nodes xs k = omega (arith, sum-nodes xs)
 
 pub turned-nodes : (xs : List Summand) (k : ℤ) → nodes (inequality (turned xs) k) ≡ inequalityNodes (length xs) (negations xs)

@@ -104,6 +104,7 @@ module _ {j a t u w x v y z : List ℕ} {d : Bool} {q k n m from to : ℕ} {b : 
   pub assumption-put : nodes (termOf j a d q b) ≡ inequalityNodes q (negations (summandsOf j a q)) → (v' : List ℕ) → length v' ≡ length v → AssumptionPut j a t u w x v' z d q b k n m
   assumption-put e v' long = record {
     standing = record {
+      whole = rw (grown .kept .long) (S .whole);
       table = grown .table;
       names = grown .names;
       stack = rw long (S .stack);

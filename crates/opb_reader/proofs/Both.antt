@@ -97,6 +97,7 @@ module _ {o s j t w : List ℕ} (B : BothReady o s j t w) where
               text = long;
               place = omega arith;
               rest = omega (arith, both-inside);
+              whole = S .whole;
               table = S .table;
               names = S .names;
               stack = S .stack;

@@ -95,6 +95,7 @@ opb-start {o} {j} {t} {w} {v} {y} R =
       follows = rw (le-leb (length o) maxText (R .short));
       place = omega arith;
       standing = record {
+        whole = B .ready .whole;
         table = B .ready .table;
         names = B .ready .names;
         stack = R .stack;

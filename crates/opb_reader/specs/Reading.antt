@@ -11,7 +11,7 @@ use Rattle.calculus.specs.OpbWriting.{Constraint, assumptions}
 use Rattle.calculus.specs.Report.{minTable}
 use Rattle.calculus.specs.Limits.{maxText, maxNodes, maxCommands}
 use Rattle.nodes.specs.Nodes.{Table, Firsts, Named}
-use Rattle.terms.specs.Names.{nameWords}
+use Rattle.terms.specs.Index.{hashes}
 use Rattle.terms.specs.Spans.{maxJoined}
 use Rattle.reader.specs.Commands.{allWords, commandsOf, Commands}
 use Rattle.reader.specs.declared.Whole.{Whole}
@@ -35,23 +35,23 @@ pub record Assuming (j a t w v y : List ℕ) (b q : ℕ) (negative : Bool) (magn
   pub few : k + more ≤ maxCommands
   pub room : n + more * inequalityNodes q (negations (summandsOf j a q)) ≤ maxNodes
 
--- the OPB text o stands at the front of the string j, and the ids behind it; the tables are large enough
+-- the OPB text o stands at the front of the string j, and the ids behind it; the tables are as large as they have to be
 pub record OpbReady (o j t w v y : List ℕ) : Type 0 where
   pub short : length o ≤ maxText
   pub rest : List ℕ
   pub front : j ≡ o ++ rest
   pub ids : IdsAt j (length o)
   pub long : length j ≤ maxJoined
-  pub room : minTable ≤ length t
+  pub room : length t ≡ minTable
   pub words : allWords ≤ length w
   pub stack : maxNodes ≤ length v
-  pub tags : nameWords ≤ length y
+  pub tags : hashes + maxNodes ≤ length y
 
--- both texts stand in the string j; the tables are large enough
+-- both texts stand in the string j; the tables are as large as they have to be
 pub record BothReady (o s j t w : List ℕ) : Type 0 where
   pub short : length o ≤ maxText
   pub joined : j ≡ joined o s
-  pub room : minTable ≤ length t
+  pub room : length t ≡ minTable
   pub words : allWords ≤ length w
 
 -- ---- what they answer

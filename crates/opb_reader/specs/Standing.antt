@@ -10,7 +10,7 @@ use lib.Seq.{slice}
 use Rattle.calculus.specs.OpbWriting.{compare, inequality, constraintId, assumptionsOf}
 use Rattle.calculus.specs.Terms.{assume}
 use Rattle.calculus.specs.Limits.{maxText, maxNodes, maxCommands, allNodes}
-use Rattle.nodes.specs.Nodes.{Table}
+use Rattle.nodes.specs.Nodes.{capacity, Table}
 use Rattle.terms.specs.Index.{Indexed}
 use Rattle.terms.specs.Names.{Names}
 use Rattle.terms.specs.Spans.{stringAt}
@@ -29,6 +29,7 @@ pub record IdsAt (j : List ℕ) (m : ℕ) : Type 0 where
 
 -- k assumptions of n nodes, and as many child words, stand in the tables t and w over the string j; their ids are c1, c2, ..
 pub record Standing (j t w v y : List ℕ) (k n : ℕ) : Type 0 where
+  pub whole : capacity t ≤ maxNodes
   pub table : Table t n n
   pub names : Names j t y n
   pub stack : maxNodes ≤ length v

@@ -10,18 +10,17 @@ use lib.ListN.{length, getD, take, set, length-set}
 use lib.Seq.{slice, getD-set-same, take-suc-set}
 use Rattle.integer.specs.Integers.{signed}
 use Rattle.calculus.specs.Equality.{opOf}
-use Rattle.calculus.specs.OpbWriting.{times, literalTerm, summandTerm, turned}
-use Rattle.calculus.specs.Report.{minTable}
+use Rattle.calculus.specs.Entries.{litTerm, entryTerm}
+use Rattle.calculus.specs.OpbWriting.{times, keyOf, entryOf, turned}
 use Rattle.calculus.specs.Terms.{Term, num, var, listed}
 use Rattle.calculus.specs.Words.{maxName}
-use Rattle.calculus.specs.Limits.{maxNodes}
-use Rattle.nodes.specs.Nodes.{plusKind, minusKind, decode, Below, put}
+use Rattle.nodes.specs.Nodes.{capacity, maxCapacity, childBase, plusKind, minusKind, decode, Below, put}
 use Rattle.nodes.proofs.Tables.{kept-refl, kept-trans, below-more, below-snoc, map-kept}
 use Rattle.opb.specs.Counts.{negations}
 use Rattle.opb.specs.Summands.{summandWord, literalOver, summandAt, summandsOf, SummandIn}
 use Rattle.terms.specs.Names.{Names, VariablePut}
 use Rattle.terms.specs.Spans.{maxJoined}
-use Rattle.opb_terms.specs.Making.{turnedSummand, turnedIf, Numeral, SignIs, literalNodes, summandNodes, negatedAt, productNodes, NameIn, Ready, Making, binary, TermPut, wordsBehind, ProductsPut}
+use Rattle.opb_terms.specs.Making.{turnedSummand, turnedIf, Numeral, SignIs, literalNodes, summandNodes, negatedAt, productNodes, NameIn, Ready, Making, binary, TermPut, wordsBehind, literalTerm, summandTerm, ProductsPut}
 use Rattle.opb_terms.proofs.Putting.{numeral-put, variable-put, binary-put}
 use Rattle.opb_terms.proofs.Turning.{numeral-plus, turned-more, products-more, products-room}
 
@@ -32,11 +31,15 @@ put-as P e z p q = rw (← p, ← q) P
 -- ---- a literal
 -- what the writer of a variable asks
 abbrev pub VariableAsked : (s t y : List ℕ) (n a b : ℕ) → Type 0
-VariableAsked s t y n a b = (minTable ≤ length t) × (n < maxNodes) × Names s t y n × (length s ≤ maxJoined) × (a < b) × (b ≤ length s) × (b ≤ a + maxName)
+VariableAsked s t y n a b = (capacity t ≤ maxCapacity) × (n < capacity t) × Names s t y n × (length s ≤ maxJoined) × (a < b) × (b ≤ length s) × (b ≤ a + maxName)
+
+-- and that of an operator over two nodes
+abbrev pub BinaryAsked : (t : List ℕ) (m d a b base : ℕ) → Type 0
+BinaryAsked t m d a b base = (capacity t ≤ maxCapacity) × (m < capacity t) × (d + 2 ≤ capacity t) × (a < capacity t) × (b < capacity t) × (base ≡ childBase t)
 
 module _ {s t y : List ℕ} {n c : ℕ} {negated : Bool} (R : Ready s t y n c (literalNodes negated)) where
   module _ (yes : negated ≡ true) where
-    pub literal-room : n + 3 ≤ maxNodes
+    pub literal-room : n + 3 ≤ capacity t
     unfolding literalNodes
     literal-room = rw yes at (R .room)
 
@@ -45,32 +48,38 @@ module _ {s t y : List ℕ} {n c : ℕ} {negated : Bool} (R : Ready s t y n c (l
       one-put = numeral-put (R .table) (omega (arith, literal-room)) false 1 (numeral-plus (omega arith)) (R .names) e
 
       pub negated-asked : {a b : ℕ} → NameIn s a b → VariableAsked s u y (n + 1) a b
-      negated-asked N = (one-put .grown .table .room, omega (arith, literal-room), one-put .grown .names, R .text, N .starts, N .ends, N .short)
+      negated-asked N = (one-put .grown .table .wide, omega (arith, literal-room, one-put .grown .kept .long), one-put .grown .names, R .text, N .starts, N .ends, N .short)
 
       module _ {v z : List ℕ} {a b : ℕ} (F : VariablePut s u v z (n + 1) a b) where
         pub name-put : TermPut s u v z (n + 1) c (n + 1 + 1) c (var (slice a b s))
-        name-put = variable-put (one-put .grown .table) (omega (arith, literal-room)) F
+        name-put = variable-put (one-put .grown .table) (omega (arith, literal-room, one-put .grown .kept .long)) F
+
+        -- what the writer of the operator asks
+        pub negated-binary : {base : ℕ} → base ≡ childBase t → BinaryAsked v (n + 2) c n (n + 1) base
+        negated-binary e =
+            let room : n + 3 ≤ capacity v = omega (arith, literal-room, one-put .grown .kept .long, name-put .grown .kept .long) in
+            (name-put .grown .table .wide, omega arith, omega (arith, R .table .used), omega arith, omega arith, omega (arith, e, one-put .grown .kept .long, name-put .grown .kept .long))
 
         pub negated-put : {r : List ℕ} → r ≡ binary v (n + 2) c 1 n (n + 1)
             → (n + 3 ≡ n + literalNodes negated) × TermPut s t r z n c (n + 3) (wordsBehind n c (n + 3)) (literalTerm (literalOver negated (slice a b s)))
-        unfolding literalNodes literalTerm literalOver listed opOf signed
+        unfolding literalNodes literalTerm litTerm keyOf literalOver listed opOf signed
         negated-put {r} q =
             let i : n + 1 + 1 ≡ n + 2 = omega arith in
             let W : TermPut s u v z (n + 1) c (n + 2) c (var (slice a b s)) = rw i at name-put in
             let j : n + 2 + 1 ≡ n + 3 = omega arith in
-            rw yes (refl, put-as (rw j at (binary-put one-put W (R .table .used) 1 n (n + 1) r (omega arith) refl i (omega (arith, literal-room)) q)) _ _ (omega arith) refl)
+            rw yes (refl, put-as (rw j at (binary-put one-put W (R .table .used) 1 n (n + 1) r (omega arith) refl i (omega (arith, literal-room, one-put .grown .kept .long, W .grown .kept .long)) q)) _ _ (omega arith) refl)
 
   module _ (no : negated ≡ false) where
-    pub plain-room : n + 1 ≤ maxNodes
+    pub plain-room : n + 1 ≤ capacity t
     unfolding literalNodes
     plain-room = rw no at (R .room)
 
     pub plain-asked : {a b : ℕ} → NameIn s a b → VariableAsked s t y n a b
-    plain-asked N = (R .table .room, omega (arith, plain-room), R .names, R .text, N .starts, N .ends, N .short)
+    plain-asked N = (R .table .wide, omega (arith, plain-room), R .names, R .text, N .starts, N .ends, N .short)
 
     pub plain-put : {u z : List ℕ} {a b : ℕ} → VariablePut s t u z n a b
         → (n + 1 ≡ n + literalNodes negated) × TermPut s t u z n c (n + 1) (wordsBehind n c (n + 1)) (literalTerm (literalOver negated (slice a b s)))
-    unfolding literalNodes literalTerm literalOver
+    unfolding literalNodes literalTerm litTerm keyOf literalOver
     plain-put F = rw no (refl, put-as (variable-put (R .table) (omega (arith, plain-room)) F) _ _ (omega arith) refl)
 
 -- ---- a summand
@@ -91,15 +100,20 @@ module _ {s t y : List ℕ} {n c : ℕ} (negated : Bool) (R : Ready s t y n c (s
     coefficient-put = numeral-put (R .table) (omega (arith, R .room, more-nodes negated, some-nodes negated)) m g N (R .names) e
 
     pub literal-ready : Ready s u y (n + 1) c (literalNodes negated)
-    literal-ready = record { text = R .text; table = coefficient-put .grown .table; names = coefficient-put .grown .names; room = omega (arith, R .room, more-nodes negated) }
+    literal-ready = record { text = R .text; table = coefficient-put .grown .table; names = coefficient-put .grown .names; room = omega (arith, R .room, more-nodes negated, coefficient-put .grown .kept .long) }
+
+    pub summand-binary : {v z : List ℕ} {x : Term} {l w : ℕ} → l ≡ n + 1 + literalNodes negated → TermPut s u v z (n + 1) c l w x → {base : ℕ} → base ≡ childBase t → BinaryAsked v l (c + (l - n) - 2) n (l - 1) base
+    summand-binary {v} {l = l} p L b =
+        let room : l + 1 ≤ capacity v = omega (arith, R .room, more-nodes negated, coefficient-put .grown .kept .long, L .grown .kept .long) in
+        (L .grown .table .wide, omega arith, omega (arith, R .table .used, some-nodes negated), omega (arith, some-nodes negated), omega arith, omega (arith, b, coefficient-put .grown .kept .long, L .grown .kept .long))
 
     pub summand-put : {v z r : List ℕ} (x : List ℕ) (l : ℕ) → l ≡ n + 1 + literalNodes negated → TermPut s u v z (n + 1) c l (wordsBehind (n + 1) c l) (literalTerm (literalOver negated x))
         → r ≡ binary v l (c + (l - n) - 2) 2 n (l - 1)
         → (l + 1 ≡ n + summandNodes negated) × TermPut s t r z n c (l + 1) (wordsBehind n c (l + 1)) (summandTerm (times (signed m g) (literalOver negated x)))
-    unfolding summandTerm listed opOf
+    unfolding summandTerm literalTerm entryTerm entryOf listed opOf
     summand-put {v} {z} {r} x l p L q =
         let W : TermPut s u v z (n + 1) c l (c + (l - n) - 2) (literalTerm (literalOver negated x)) = put-as L _ _ (omega (arith, some-nodes negated)) refl in
-        (omega (arith, more-nodes negated), put-as (binary-put coefficient-put W (R .table .used) 2 n (l - 1) r (omega arith) refl (omega (arith, L .some)) (omega (arith, R .room, more-nodes negated)) q) _ _ (omega (arith, some-nodes negated)) refl)
+        (omega (arith, more-nodes negated), put-as (binary-put coefficient-put W (R .table .used) 2 n (l - 1) r (omega arith) refl (omega (arith, L .some)) (omega (arith, R .room, more-nodes negated, coefficient-put .grown .kept .long, L .grown .kept .long)) q) _ _ (omega (arith, some-nodes negated)) refl)
 
 -- ---- a summand of the words
 module _ {s a : List ℕ} {i : ℕ} (S : SummandIn s a i) where
@@ -153,8 +167,8 @@ module _ {s a t₀ v₀ y₀ : List ℕ} {d : Bool} {q n c : ℕ} (M : Making s 
       none false = refl
 
   module _ {t v y : List ℕ} {i m : ℕ} (I : Inv s a t₀ v₀ y₀ d q n c t v y i m) (less : i < q) where
-    pub loop-room : m + summandNodes (negatedAt a i) ≤ maxNodes
-    loop-room = omega (arith, I .made .size, M .ready .room, products-room s a i q less)
+    pub loop-room : m + summandNodes (negatedAt a i) ≤ capacity t
+    loop-room = omega (arith, I .made .size, I .made .grown .kept .long, M .ready .room, products-room s a i q less)
 
     pub loop-ready : Ready s t y m (c + (m - n) - i) (summandNodes (negatedAt a i))
     loop-ready = record { text = M .ready .text; table = I .made .grown .table; names = I .made .grown .names; room = loop-room }

@@ -12,12 +12,13 @@ use lib.ListN.{length, length-append}
 use lib.Seq.{slice}
 use Rattle.integer.specs.Integers.{signed}
 use Rattle.calculus.specs.OpbWords.{plain, negated}
-use Rattle.calculus.specs.OpbWriting.{Summand, times, summandTerm, summandTerms, sumTerm, turned}
+use Rattle.calculus.specs.Entries.{entryTerms, sumTerm}
+use Rattle.calculus.specs.OpbWriting.{Summand, times, entriesOf, turned}
 use Rattle.calculus.specs.Terms.{app, add, listed}
 use Rattle.calculus.specs.Words.{maxNumeral}
 use Rattle.opb.specs.Counts.{negations, sumNodes}
 use Rattle.opb.specs.Summands.{summandWord, literalOver, summandAt, summandsOf}
-use Rattle.opb_terms.specs.Making.{turnedNumber, turnedSummand, turnedIf, Numeral, SignIs, summandNodes, negatedAt, productNodes}
+use Rattle.opb_terms.specs.Making.{turnedNumber, turnedSummand, turnedIf, Numeral, SignIs, summandNodes, negatedAt, productNodes, summandTerm}
 
 -- ---- the sign of a numeral
 -- a numeral that is not below 0
@@ -138,14 +139,14 @@ all-long true s a q = turned-long (summandsOf s a q) ∙ summands-long s a q
 all-long false s a q = summands-long s a q
 
 -- as a list
-terms-listed : (xs : List Summand) → listed (map summandTerm xs) ≡ summandTerms xs
-unfolding listed summandTerms
+terms-listed : (xs : List Summand) → listed (map summandTerm xs) ≡ entryTerms (entriesOf xs)
+unfolding listed summandTerm entryTerms entriesOf
 terms-listed [] = refl
 terms-listed (x ∷ xs) = rw (terms-listed xs)
 
 -- of several summands
-pub several : (xs : List Summand) → 2 ≤ length xs → app add (listed (map summandTerm xs)) ≡ sumTerm xs
-unfolding sumTerm
+pub several : (xs : List Summand) → 2 ≤ length xs → app add (listed (map summandTerm xs)) ≡ sumTerm (entriesOf xs)
+unfolding sumTerm entriesOf
 several [] h = let z : ⊥ = omega arith in absurd z
 several (x ∷ []) h = let z : ⊥ = omega arith in absurd z
 several (x ∷ (y ∷ xs)) h = ap (app add) (terms-listed (x ∷ (y ∷ xs)))

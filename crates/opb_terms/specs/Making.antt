@@ -8,11 +8,13 @@ use lib.IntN.{ℤ, negℤ}
 use lib.ListN.{length, getD, take}
 use lib.Seq.{paste}
 use Rattle.integer.specs.Integers.{signed}
-use Rattle.calculus.specs.OpbWriting.{Summand, times, summandTerm, sumTerm, inequality, turned}
+use Rattle.calculus.specs.OpbWords.{Literal}
+use Rattle.calculus.specs.Entries.{litTerm, entryTerm, sumTerm}
+use Rattle.calculus.specs.OpbWriting.{Summand, times, keyOf, entryOf, entriesOf, inequality, turned}
 use Rattle.calculus.specs.Terms.{Term}
 use Rattle.calculus.specs.Words.{maxNumeral, maxName}
 use Rattle.calculus.specs.Limits.{maxNodes}
-use Rattle.nodes.specs.Nodes.{childBase, childrenAt, decode, Below, Table, put}
+use Rattle.nodes.specs.Nodes.{capacity, childBase, childrenAt, decode, Below, Table, put}
 use Rattle.opb.specs.Counts.{negations, sumNodes, inequalityNodes}
 use Rattle.opb.specs.Summands.{summandWord, summandsOf, SummandsIn}
 use Rattle.terms.specs.Names.{Names}
@@ -66,7 +68,7 @@ pub record Ready (s t y : List ℕ) (n c k : ℕ) : Type 0 where
   pub text : length s ≤ maxJoined
   pub table : Table t n c
   pub names : Names s t y n
-  pub room : n + k ≤ maxNodes
+  pub room : n + k ≤ capacity t
 
 -- the same, with the words a of q summands and a place for each pending node
 pub record Making (s a t v y : List ℕ) (q n c k : ℕ) : Type 0 where
@@ -77,7 +79,7 @@ pub record Making (s a t v y : List ℕ) (q n c k : ℕ) : Type 0 where
 -- ---- how the table is written
 -- node m is the operator o over the nodes a and b, which are the child words d and d + 1
 unfoldable pub binary : (t : List ℕ) (m d o a b : ℕ) → List ℕ
-binary t m d o a b = put (paste t (childBase + d) (a ∷ b ∷ []) 2) m o d 2
+binary t m d o a b = put (paste t (childBase t + d) (a ∷ b ∷ []) 2) m o d 2
 
 -- the term x is the last of the m nodes that are in use now, where n were; each of the new nodes but this one is a child word
 pub record TermPut (s t u y : List ℕ) (n c m d : ℕ) (x : Term) : Type 0 where
@@ -90,6 +92,13 @@ pub record TermPut (s t u y : List ℕ) (n c m d : ℕ) (x : Term) : Type 0 wher
 abbrev pub wordsBehind : (n c m : ℕ) → ℕ
 wordsBehind n c m = c + (m - n) - 1
 
+-- the terms of a literal and of a summand
+unfoldable pub literalTerm : Literal → Term
+literalTerm l = litTerm (keyOf l)
+
+unfoldable pub summandTerm : Summand → Term
+summandTerm x = entryTerm (entryOf x)
+
 -- the terms of q summands are the pending nodes w, the last of them the last node; each of the new nodes but these is a child word
 pub record ProductsPut (s a t u w y : List ℕ) (d : Bool) (q n c m : ℕ) : Type 0 where
   pub size : m ≡ n + productNodes s a q
@@ -101,7 +110,7 @@ pub record ProductsPut (s a t u w y : List ℕ) (d : Bool) (q n c m : ℕ) : Typ
 -- the sum of q summands is the last node
 pub record SumPut (s a t u y : List ℕ) (d : Bool) (q n c m : ℕ) : Type 0 where
   pub size : m ≡ n + sumNodes q (negations (summandsOf s a q))
-  pub made : TermPut s t u y n c m (wordsBehind n c m) (sumTerm (turnedIf d (summandsOf s a q)))
+  pub made : TermPut s t u y n c m (wordsBehind n c m) (sumTerm (entriesOf (turnedIf d (summandsOf s a q))))
 
 -- the inequality of q summands and the constant k is the last node, and this node the last child word
 pub record InequalityPut (s a t u y : List ℕ) (d : Bool) (q : ℕ) (k : ℤ) (n c m : ℕ) : Type 0 where

@@ -3,7 +3,7 @@ use matching::ADD;
 use matching::GE;
 use matching::MUL;
 use matching::SUB;
-use nodes::CHILD_BASE;
+use nodes::child_base;
 use nodes::put_children;
 use nodes::put_node;
 use nodes::wide;
@@ -15,28 +15,26 @@ ghost use Prim.Native.Nat.{_+_, _≤_, _<_};
 ghost use lib.ListN.{length};
 ghost use lib.Seq.{slice, paste};
 ghost use Rattle.integer.specs.Integers.{signed};
-ghost use Rattle.calculus.specs.OpbWriting.{times, literalTerm, summandTerm};
-ghost use Rattle.calculus.specs.Report.{minTable};
-ghost use Rattle.calculus.specs.Limits.{maxNodes};
-ghost use Rattle.nodes.specs.Nodes.{childBase};
+ghost use Rattle.calculus.specs.OpbWriting.{times};
+ghost use Rattle.nodes.specs.Nodes.{capacity, maxCapacity, childBase};
 ghost use Rattle.opb.specs.Counts.{negations, sumNodes, inequalityNodes};
 ghost use Rattle.opb.specs.Summands.{maxSummands, summandWords, literalOver, summandAt, summandsOf, SummandIn};
-ghost use Rattle.opb_terms.specs.Making.{turnedSummand, Numeral, SignIs, literalNodes, summandNodes, negatedAt, productNodes, NameIn, Ready, Making, binary, TermPut, wordsBehind, ProductsPut, SumPut, InequalityPut};
+ghost use Rattle.opb_terms.specs.Making.{turnedSummand, Numeral, SignIs, literalNodes, summandNodes, negatedAt, productNodes, NameIn, Ready, Making, binary, TermPut, wordsBehind, literalTerm, summandTerm, ProductsPut, SumPut, InequalityPut};
 
-// Writes node i as child word c.
-fn put_child(nodes: &mut [u32], c: usize, i: usize)
-    requires { ⌜ (minTable ≤ length (now nodes)) × (c < maxNodes) × (i < maxNodes) ⌝ }
-    ensures { λ _. ⌜ now (nodes .exit) ≡ paste (now (nodes .entry)) (childBase + c) (i ∷ []) 1 ⌝ }
+// Writes node i as child word c, where child words begin at word base.
+fn put_child(nodes: &mut [u32], c: usize, i: usize, base: usize)
+    requires { ⌜ (capacity (now nodes) ≤ maxCapacity) × (c < capacity (now nodes)) × (i < capacity (now nodes)) × (base ≡ childBase (now nodes)) ⌝ }
+    ensures { λ _. ⌜ now (nodes .exit) ≡ paste (now (nodes .entry)) (childBase (now (nodes .entry)) + c) (i ∷ []) 1 ⌝ }
 {
-    nodes[CHILD_BASE + c] = i as u32;
+    nodes[base + c] = i as u32;
 }
 
 // Writes node m, the operator over the nodes a and b, which become child words d and d + 1.
-fn put_binary(nodes: &mut [u32], m: usize, d: usize, operator: u32, a: usize, b: usize)
-    requires { ⌜ (minTable ≤ length (now nodes)) × (m < maxNodes) × (d + 2 ≤ maxNodes) × (a < maxNodes) × (b < maxNodes) ⌝ }
+fn put_binary(nodes: &mut [u32], m: usize, d: usize, operator: u32, a: usize, b: usize, base: usize)
+    requires { ⌜ (capacity (now nodes) ≤ maxCapacity) × (m < capacity (now nodes)) × (d + 2 ≤ capacity (now nodes)) × (a < capacity (now nodes)) × (b < capacity (now nodes)) × (base ≡ childBase (now nodes)) ⌝ }
     ensures { λ _. ⌜ now (nodes .exit) ≡ binary (now (nodes .entry)) m d operator a b ⌝ }
 {
-    let k = CHILD_BASE + d;
+    let k = base + d;
     nodes[k] = a as u32;
     nodes[k + 1] = b as u32;
     put_node(nodes, m, operator, d as u32, 2);
@@ -52,14 +50,15 @@ fn put_literal(
     negated: bool,
     from: usize,
     to: usize,
+    base: usize,
 ) -> usize
-    requires { ⌜ Ready (now text) (now nodes) (now names) n c (literalNodes negated) × NameIn (now text) from to ⌝ }
+    requires { ⌜ Ready (now text) (now nodes) (now names) n c (literalNodes negated) × NameIn (now text) from to × (base ≡ childBase (now nodes)) ⌝ }
     ensures { λ r. ⌜ (r ≡ n + literalNodes negated) × TermPut (now (text .entry)) (now (nodes .entry)) (now (nodes .exit)) (now (names .exit)) n c r (wordsBehind n c r) (literalTerm (literalOver negated (slice from to (now (text .entry))))) ⌝ }
 {
     if negated {
         put_numeral(nodes, n, false, 1);
         put_variable(text, nodes, names, n + 1, from, to);
-        put_binary(nodes, n + 2, c, SUB, n, n + 1);
+        put_binary(nodes, n + 2, c, SUB, n, n + 1, base);
         return n + 3;
     }
     put_variable(text, nodes, names, n, from, to);
@@ -78,13 +77,14 @@ fn put_summand(
     negated: bool,
     from: usize,
     to: usize,
+    base: usize,
 ) -> usize
-    requires { ⌜ Ready (now text) (now nodes) (now names) n c (summandNodes negated) × Numeral negative magnitude × NameIn (now text) from to ⌝ }
+    requires { ⌜ Ready (now text) (now nodes) (now names) n c (summandNodes negated) × Numeral negative magnitude × NameIn (now text) from to × (base ≡ childBase (now nodes)) ⌝ }
     ensures { λ r. ⌜ (r ≡ n + summandNodes negated) × TermPut (now (text .entry)) (now (nodes .entry)) (now (nodes .exit)) (now (names .exit)) n c r (wordsBehind n c r) (summandTerm (times (signed negative magnitude) (literalOver negated (slice from to (now (text .entry)))))) ⌝ }
 {
     put_numeral(nodes, n, negative, magnitude);
-    let m = put_literal(text, nodes, names, n + 1, c, negated, from, to);
-    put_binary(nodes, m, c + (m - n) - 2, MUL, n, m - 1);
+    let m = put_literal(text, nodes, names, n + 1, c, negated, from, to, base);
+    put_binary(nodes, m, c + (m - n) - 2, MUL, n, m - 1, base);
     m + 1
 }
 
@@ -112,8 +112,9 @@ fn put_product(
     names: &mut [u16],
     n: usize,
     c: usize,
+    base: usize,
 ) -> usize
-    requires { ⌜ (summandWords ≤ length (now summands)) × (i < maxSummands) × SummandIn (now text) (now summands) i × Ready (now text) (now nodes) (now names) n c (summandNodes (negatedAt (now summands) i)) ⌝ }
+    requires { ⌜ (summandWords ≤ length (now summands)) × (i < maxSummands) × SummandIn (now text) (now summands) i × Ready (now text) (now nodes) (now names) n c (summandNodes (negatedAt (now summands) i)) × (base ≡ childBase (now nodes)) ⌝ }
     ensures { λ r. ⌜ (r ≡ n + summandNodes (negatedAt (now (summands .entry)) i)) × TermPut (now (text .entry)) (now (nodes .entry)) (now (nodes .exit)) (now (names .exit)) n c r (wordsBehind n c r) (summandTerm (turnedSummand turned (summandAt (now (text .entry)) (now (summands .entry)) i))) ⌝ }
 {
     let k = 5 * i;
@@ -133,6 +134,7 @@ fn put_product(
         negated,
         from,
         to,
+        base,
     )
 }
 
@@ -151,10 +153,21 @@ fn put_products(
     requires { ⌜ Making (now text) (now summands) (now nodes) (now pending) (now names) count n c (productNodes (now text) (now summands) count) ⌝ }
     ensures { λ r. ⌜ ProductsPut (now (text .entry)) (now (summands .entry)) (now (nodes .entry)) (now (nodes .exit)) (now (pending .exit)) (now (names .exit)) turned count n c r ⌝ }
 {
+    let base = child_base(nodes);
     let mut i = 0;
     let mut m = n;
     while i < count {
-        m = put_product(text, summands, i, turned, nodes, names, m, c + (m - n) - i);
+        m = put_product(
+            text,
+            summands,
+            i,
+            turned,
+            nodes,
+            names,
+            m,
+            c + (m - n) - i,
+            base,
+        );
         pending[i] = (m - 1) as u16;
         i += 1;
     }
@@ -210,8 +223,9 @@ pub fn put_inequality(
     let m = put_sum(text, summands, count, turned, nodes, pending, names, n, c);
     let d = c + (m - n) - 1;
     let minus = sign(turned, negative, magnitude);
+    let base = child_base(nodes);
     put_numeral(nodes, m, minus, magnitude);
-    put_binary(nodes, m + 1, d, GE, m - 1, m);
-    put_child(nodes, d + 2, m + 1);
+    put_binary(nodes, m + 1, d, GE, m - 1, m, base);
+    put_child(nodes, d + 2, m + 1, base);
     m + 2
 }

@@ -2,7 +2,7 @@
 // child word of the tables.
 use libc::STDIN_FILENO;
 use libc::STDOUT_FILENO;
-use nodes::CHILD_BASE;
+use nodes::child_base;
 use reader::COMMAND_WORDS;
 use reader::ID_WORDS;
 use reader::NODE_WORDS;
@@ -10,8 +10,8 @@ use reader::Whole;
 use reader::read_file;
 ghost use Prim.Native.Nat.{_≤_};
 ghost use lib.ListN.{length};
-ghost use Rattle.calculus.specs.Report.{minTable};
-ghost use Rattle.calculus.specs.Limits.{maxNodes, maxCommands};
+ghost use Rattle.calculus.specs.Limits.{maxCommands};
+ghost use Rattle.nodes.specs.Nodes.{capacity, maxCapacity};
 ghost use Rattle.reader.specs.Commands.{allWords};
 
 // One byte more than a text may have.
@@ -65,7 +65,7 @@ fn put_commands(commands: &[u16], k: usize)
 
 // A line for each of the n nodes: its kind and two words.
 fn put_nodes(nodes: &[u32], n: usize)
-    requires { ⌜ (n ≤ maxNodes) × (minTable ≤ length (now nodes)) ⌝ }
+    requires { ⌜ (n ≤ capacity (now nodes)) × (capacity (now nodes) ≤ maxCapacity) ⌝ }
 {
     let mut i = 0;
     while i < n {
@@ -80,10 +80,11 @@ fn put_nodes(nodes: &[u32], n: usize)
 
 // A line for each of the c child words.
 fn put_children(nodes: &[u32], c: usize)
-    requires { ⌜ (c ≤ maxNodes) × (minTable ≤ length (now nodes)) ⌝ }
+    requires { ⌜ (c ≤ capacity (now nodes)) × (capacity (now nodes) ≤ maxCapacity) ⌝ }
 {
-    let mut i = CHILD_BASE;
-    while i < CHILD_BASE + c {
+    let mut i = child_base(nodes);
+    let end = i + c;
+    while i < end {
         put(b"child");
         put_word(nodes[i]);
         put(b"\n");
@@ -93,7 +94,7 @@ fn put_children(nodes: &[u32], c: usize)
 
 // The line of the counts, then those of the commands, the nodes and the child words.
 fn put_tables(nodes: &[u32], commands: &[u16], k: usize, n: usize, c: usize)
-    requires { ⌜ (k ≤ maxCommands) × (allWords ≤ length (now commands)) × (n ≤ maxNodes) × (c ≤ maxNodes) × (minTable ≤ length (now nodes)) ⌝ }
+    requires { ⌜ (k ≤ maxCommands) × (allWords ≤ length (now commands)) × (n ≤ capacity (now nodes)) × (c ≤ capacity (now nodes)) × (capacity (now nodes) ≤ maxCapacity) ⌝ }
 {
     put_number(b"commands=", k as u64);
     put_number(b" nodes=", n as u64);

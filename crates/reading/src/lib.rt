@@ -33,7 +33,7 @@ pub extern "C" fn cutting_planes_read(
     if answer.len() < ANSWER_WORDS {
         return TOO_SMALL;
     }
-    match read_file(text, nodes, commands) {
+    match read_file(text, &mut nodes[0..NODE_WORDS], commands) {
         Whole::All(k, n, c) => {
             answer[0] = k;
             answer[1] = n;

@@ -74,7 +74,7 @@ fn unwrap_two(
     slots: &mut [u16],
 ) -> Two
     requires { ⌜ Node (now nodes) clause × Node (now nodes) conclusion ⌝ }
-    requires { ⌜ Rooms (now coeffs) (now keys) (now slots) ⌝ }
+    requires { ⌜ Rooms (now nodes) (now coeffs) (now keys) (now slots) ⌝ }
     ensures { λ r. ⌜ TwoAt (now (nodes .entry)) clause conclusion (now (coeffs .exit)) (now (keys .exit)) (now (slots .exit)) r ⌝ }
 {
     // Unwrap the premise inequality
@@ -120,7 +120,7 @@ fn unwrap_three(
     slots: &mut [u16],
 ) -> Three
     requires { ⌜ Node (now nodes) left × Node (now nodes) right × Node (now nodes) conclusion ⌝ }
-    requires { ⌜ Rooms (now coeffs) (now keys) (now slots) ⌝ }
+    requires { ⌜ Rooms (now nodes) (now coeffs) (now keys) (now slots) ⌝ }
     ensures { λ r. ⌜ ThreeAt (now (nodes .entry)) left right conclusion (now (coeffs .exit)) (now (keys .exit)) (now (slots .exit)) r ⌝ }
 {
     // Unwrap the premise inequality
@@ -304,7 +304,7 @@ fn added(
     keys: &mut [u32],
     slots: &mut [u16],
 ) -> Answer
-    requires { ⌜ Rooms (now coeffs) (now keys) (now slots) ⌝ }
+    requires { ⌜ Rooms (now nodes) (now coeffs) (now keys) (now slots) ⌝ }
     requires { ⌜ Fine (now nodes) (placed leftAt (now keys)) (slotted leftAt (now slots)) (three .count) × (three .count ≤ maxSummands) × Bounded maxTotal (placed leftAt (now coeffs)) (three .count) ⌝ }
     requires { ⌜ Literals (now nodes) (placed rightAt (now keys)) (three .count2) × (three .count2 ≤ maxSummands) × Bounded maxTotal (placed rightAt (now coeffs)) (three .count2) ⌝ }
     requires { ⌜ Fine (now nodes) (placed conclusionAt (now keys)) (slotted conclusionAt (now slots)) (three .count3) × Within maxNumeral (three .constant) ⌝ }
@@ -341,7 +341,7 @@ pub fn cp_addition(
 ) -> Answer
     requires { ⌜ Step (now nodes) (now commands) (now premises) (now args) ⌝ }
     requires { ⌜ AllNodes (now nodes) (now conclusion) ⌝ }
-    requires { ⌜ Rooms (now coeffs) (now keys) (now slots) ⌝ }
+    requires { ⌜ Rooms (now nodes) (now coeffs) (now keys) (now slots) ⌝ }
     ensures { λ r. ⌜ RuleIs cpAddition (now (nodes .entry)) (now (commands .entry)) (now (premises .entry)) (now (args .entry)) (now (conclusion .entry)) r ⌝ }
 {
     match two_premises(nodes, commands, premises, args, conclusion) {
@@ -507,7 +507,7 @@ pub fn cp_multiplication(
 ) -> Answer
     requires { ⌜ Step (now nodes) (now commands) (now premises) (now args) ⌝ }
     requires { ⌜ AllNodes (now nodes) (now conclusion) ⌝ }
-    requires { ⌜ Rooms (now coeffs) (now keys) (now slots) ⌝ }
+    requires { ⌜ Rooms (now nodes) (now coeffs) (now keys) (now slots) ⌝ }
     ensures { λ r. ⌜ RuleIs cpMultiplication (now (nodes .entry)) (now (commands .entry)) (now (premises .entry)) (now (args .entry)) (now (conclusion .entry)) r ⌝ }
 {
     match scalar_of(nodes, commands, premises, args, conclusion) {
@@ -567,7 +567,7 @@ pub fn cp_division(
 ) -> Answer
     requires { ⌜ Step (now nodes) (now commands) (now premises) (now args) ⌝ }
     requires { ⌜ AllNodes (now nodes) (now conclusion) ⌝ }
-    requires { ⌜ Rooms (now coeffs) (now keys) (now slots) ⌝ }
+    requires { ⌜ Rooms (now nodes) (now coeffs) (now keys) (now slots) ⌝ }
     ensures { λ r. ⌜ RuleIs cpDivision (now (nodes .entry)) (now (commands .entry)) (now (premises .entry)) (now (args .entry)) (now (conclusion .entry)) r ⌝ }
 {
     match divisor_of(nodes, commands, premises, args, conclusion) {
@@ -666,7 +666,7 @@ pub fn cp_saturation(
 ) -> Answer
     requires { ⌜ Step (now nodes) (now commands) (now premises) (now args) ⌝ }
     requires { ⌜ AllNodes (now nodes) (now conclusion) ⌝ }
-    requires { ⌜ Rooms (now coeffs) (now keys) (now slots) ⌝ }
+    requires { ⌜ Rooms (now nodes) (now coeffs) (now keys) (now slots) ⌝ }
     ensures { λ r. ⌜ RuleIs cpSaturation (now (nodes .entry)) (now (commands .entry)) (now (premises .entry)) (now (args .entry)) (now (conclusion .entry)) r ⌝ }
 {
     match capped_terms(nodes, commands, premises, args, conclusion) {

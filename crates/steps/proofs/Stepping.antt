@@ -74,7 +74,7 @@ module _ {t w : List ℕ} {k : ℕ} (g : Given t w k) where
   }
 
 -- ---- the arrays of normalization
-pub lines-in : {cs : List ℤ} {ks sl : List ℕ} → Rooms cs ks sl → Lines cs ks
+pub lines-in : {t : List ℕ} {cs : List ℤ} {ks sl : List ℕ} → Rooms t cs ks sl → Lines cs ks
 lines-in r = record { coeffs = omega (arith, r .coefficients); keys = omega (arith, r .keys) }
 
 -- ---- the answer over the parts is the step's

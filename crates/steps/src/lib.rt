@@ -66,7 +66,7 @@ fn check_map(
     requires { ⌜ (multiplicationNumber ≤ rule) × (rule < literalNumber) ⌝ }
     requires { ⌜ Step (now nodes) (now commands) (now premises) (now args) ⌝ }
     requires { ⌜ AllNodes (now nodes) (now conclusion) ⌝ }
-    requires { ⌜ Rooms (now coeffs) (now keys) (now slots) ⌝ }
+    requires { ⌜ Rooms (now nodes) (now coeffs) (now keys) (now slots) ⌝ }
     ensures { λ r. ⌜ NumberIs rule (now (nodes .entry)) (now (commands .entry)) (now (premises .entry)) (now (args .entry)) (now (conclusion .entry)) r ⌝ }
 {
     if rule == MULTIPLICATION {
@@ -115,7 +115,7 @@ pub fn check_step(
     slots: &mut [u16],
 ) -> Answer
     requires { ⌜ Given (now nodes) (now commands) k ⌝ }
-    requires { ⌜ Rooms (now coeffs) (now keys) (now slots) ⌝ }
+    requires { ⌜ Rooms (now nodes) (now coeffs) (now keys) (now slots) ⌝ }
     ensures { λ r. ⌜ StepIs (now (nodes .entry)) (now (commands .entry)) k r ⌝ }
 {
     let premises = part_of(nodes, commands, k, PREMISES_WORD);

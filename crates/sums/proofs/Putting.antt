@@ -13,7 +13,7 @@ use Rattle.matching.specs.Matched.{term, litAt, variableOf, Variable}
 use Rattle.matching.specs.Entries.{entryAt, entries}
 use Rattle.matching.specs.Places.{maxEntries, Put1}
 use Rattle.sums.specs.Lists.{indexOf, OverName, Taken, Fine}
-use Rattle.sums.specs.Found.{FindIs, Appended, PutIs}
+use Rattle.sums.specs.Found.{Followed, FindIs, Appended, PutIs}
 use Rattle.sums.proofs.Runs.{index-le, put-at, put-new}
 
 -- what stands below n stands there still, and the last is new
@@ -34,6 +34,7 @@ module _ {t ks sl : List ℕ} {n k i : ℕ} (cs : List ℤ) (c : ℤ) (I : FindI
     fine = F;
     grows = omega arith;
     under = λ m under a. under;
+    names = λ f o. f;
     bounded = λ B C b w m l. elim (decEq m) [
       | yes e ↦ rw (e, P .new) (within-add (b i h) w)
       | no e ↦ rw (P .old m e) (within-more (omega arith) (b m l))
@@ -63,6 +64,7 @@ module _ {t ks sl : List ℕ} {n k i : ℕ} (cs : List ℤ) (c : ℤ) (I : FindI
     };
     grows = omega (arith, A .count);
     under = λ u under a m l. by-last l (A .count) (λ q f. rw (A .keys .old m f) (under m q)) (λ e. rw (e, A .keys .new) a);
+    names = λ f o m l. by-last l (A .count) (λ q g. rw (A .keys .old m g) (f m q)) (λ e. rw (e, A .keys .new) o);
     bounded = λ B C b w m l. by-last l (A .count)
         (λ q f. rw (A .coefficients .old m f) (within-more (omega arith) (b m q)))
         (λ e. rw (e, A .coefficients .new) (within-more (omega arith) w));
@@ -78,3 +80,36 @@ module _ {t ks sl : List ℕ} {n k i : ℕ} (cs : List ℤ) (c : ℤ) (I : FindI
 
       taken-new : OverName t k → Taken ls tl (suc n) k
       taken-new o = rw (A .slots .new, A .keys .new) (omega arith, refl)
+
+-- ---- one entry more, whatever stands before it
+module _ {t ks sl : List ℕ} {n k i : ℕ} (I : FindIs t ks n k i) (F : Fine t ks sl n) (N : Variable t (variableOf k)) (o : OverName t k) (lim : n < maxEntries) where
+  -- a key that stands there already keeps its slot
+  pub followed-again : {cs ds : List ℤ} {ls : List ℕ} {c : ℤ} → i < n → Put1 (pos 0) cs n c ds → Put1 0 ks n k ls → Followed t cs ks n k c ds ls sl (n + 1)
+  followed-again {ls = ls} h C K = record {
+    coefficients = C;
+    keys = K;
+    fine = record {
+      few = omega arith;
+      literals = λ m l. by-last l refl (λ q f. rw (K .old m f) (F .literals m q)) (λ e. rw (e, K .new) N);
+      slots = λ m l. by-last l refl (λ q f. rw (K .old m f) (λ p. still m q (getD ks m 0) (F .slots m q p))) (λ e. rw (e, K .new) (λ p. taken));
+    };
+    count = refl;
+  }
+    where
+      still : (m : ℕ) → m < n → (l : ℕ) → Taken ks sl (suc m) l → Taken ls sl (suc m) l
+      still m q l T = (T .0, rw (K .old (getD sl l 0) (λ z. omega (arith, T .0))) (T .1))
+
+      first : Taken ks sl (suc i) k
+      first = let e = I .here o h in rw e at (F .slots i h (rw e o))
+
+      taken : Taken ls sl (suc n) k
+      taken = (omega (arith, first .0), rw (K .old (getD sl k 0) (λ z. omega (arith, first .0))) (first .1))
+
+  -- another is new
+  pub followed-new : {cs ds : List ℤ} {ls tl : List ℕ} {c : ℤ} {r : ℕ} → n ≤ i → Appended cs ks sl n k c ds ls tl r → Followed t cs ks n k c ds ls tl r
+  followed-new {cs} {ds} {ls} {tl} {c} {r} h A = record {
+    coefficients = A .coefficients;
+    keys = A .keys;
+    fine = put-appended cs c I F ds ls tl r h lim N A .fine;
+    count = A .count;
+  }

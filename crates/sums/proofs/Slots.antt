@@ -129,6 +129,7 @@ module _ {t ks sl : List ℕ} {n : ℕ} (k : ℕ) (N : Variable t (variableOf k)
         (λ m b c. literal-other x under a m (omega arith) (λ q. omega (arith, key-taken m (omega arith) q .0)))
         (let z : 0 + p ≡ p = omega arith in rw (z, e) (key-same k x)));
     most = omega arith;
+    here = λ q h. e;
     fresh = λ q h. let z : ⊥ = omega arith in absurd z;
   }
 
@@ -136,6 +137,7 @@ module _ {t ks sl : List ℕ} {n : ℕ} (k : ℕ) (N : Variable t (variableOf k)
   find-none f = record {
     is = λ x cs under a. sym (index-none (litAt (term x) k) (entryAt (term x) cs ks) 0 n (λ m b c. literal-other x under a m (omega arith) (λ q. none m (omega arith) q)));
     most = omega arith;
+    here = λ q h. let z : ⊥ = omega arith in absurd z;
     fresh = λ q h. none;
   }
     where
@@ -143,7 +145,7 @@ module _ {t ks sl : List ℕ} {n : ℕ} (k : ℕ) (N : Variable t (variableOf k)
       none m l e = let g = key-taken m l e in f (omega (arith, g .0)) (g .1)
 
 pub find-walked : {t ks : List ℕ} {n k r : ℕ} → (OverName t k → ⊥) → PlaceIs t ks n k r × (r ≤ n) → FindIs t ks n k r
-find-walked f P = record { is = P .0; most = P .1; fresh = λ o. absurd (f o) }
+find-walked f P = record { is = P .0; most = P .1; here = λ o. absurd (f o); fresh = λ o. absurd (f o) }
 
 -- ---- looking up by walking: from i on the place is that in the whole
 abbrev pub Walking : (t ks : List ℕ) → ℕ → ℕ → ℕ → Type 0

@@ -15,7 +15,7 @@ use Rattle.nodes.specs.Nodes.{decode, Below, Node}
 use Rattle.matching.specs.Matched.{Text, term, litAt, variableOf, Variable}
 use Rattle.matching.specs.Entries.{entryAt, entries, Under}
 use Rattle.matching.specs.Places.{maxEntries, placed, Put1}
-use Rattle.sums.specs.Lists.{indexOf, OverName, Bounded, Fine, maxTotal, maxAdded, resOf}
+use Rattle.sums.specs.Lists.{indexOf, OverName, OverNames, Bounded, Fine, maxTotal, maxAdded, resOf}
 use Rattle.matching.specs.declared.Constant.{Constant}
 use Rattle.matching.specs.declared.Constant.the-variants as constants
 use Rattle.sums.specs.Places.{slotted, Elsewhere}
@@ -32,10 +32,11 @@ SameIs t k l r = (x : Text t) → variableOf k < x .n → variableOf l < x .n �
 abbrev pub PlaceIs : (t ks : List ℕ) → ℕ → ℕ → ℕ → Type 0
 PlaceIs t ks n k r = (x : Text t) (cs : List ℤ) → Under (x .n) ks n → variableOf k < x .n → r ≡ indexOf (litAt (term x) k) (entries (term x) cs ks n)
 
--- and a key over a name that is not found is none of them
+-- and a key over a name that is found is this very key, one that is not found is none of them
 pub record FindIs (t ks : List ℕ) (n k r : ℕ) : Type 0 where
   pub is : PlaceIs t ks n k r
   pub most : r ≤ n
+  pub here : OverName t k → r < n → getD ks r 0 ≡ k
   pub fresh : OverName t k → n ≤ r → (i : ℕ) → i < n → getD ks i 0 ≡ k → ⊥
 
 -- one entry more, behind n, and its place in the key's slot
@@ -48,12 +49,23 @@ pub record Appended (cs : List ℤ) (ks sl : List ℕ) (n k : ℕ) (c : ℤ) (ds
 abbrev pub AppendedAt : (at : ℕ) (cs : List ℤ) (ks sl : List ℕ) (n k : ℕ) (c : ℤ) (ds : List ℤ) (ls tl : List ℕ) (r : ℕ) → Type 0
 AppendedAt at cs ks sl n k c ds ls tl r = Appended (placed at cs) (placed at ks) (slotted at sl) n k c (placed at ds) (placed at ls) (slotted at tl) r × Elsewhere at cs ks sl ds ls tl
 
+-- one entry more, behind n, and all keys can be looked up
+pub record Followed (t : List ℕ) (cs : List ℤ) (ks : List ℕ) (n k : ℕ) (c : ℤ) (ds : List ℤ) (ls tl : List ℕ) (r : ℕ) : Type 0 where
+  pub coefficients : Put1 (pos 0) cs n c ds
+  pub keys : Put1 0 ks n k ls
+  pub fine : Fine t ls tl r
+  pub count : r ≡ n + 1
+
+abbrev pub FollowedAt : (t : List ℕ) (at : ℕ) (cs : List ℤ) (ks sl : List ℕ) (n k : ℕ) (c : ℤ) (ds : List ℤ) (ls tl : List ℕ) (r : ℕ) → Type 0
+FollowedAt t at cs ks sl n k c ds ls tl r = Followed t (placed at cs) (placed at ks) n k c (placed at ds) (placed at ls) (slotted at tl) r × Elsewhere at cs ks sl ds ls tl
+
 -- c was added to the key k of the n entries cs, ks: the r entries ds, ls
 pub record PutIs (t : List ℕ) (cs : List ℤ) (ks : List ℕ) (n k : ℕ) (c : ℤ) (ds : List ℤ) (ls tl : List ℕ) (r : ℕ) : Type 0 where
   pub is : (x : Text t) → Under (x .n) ks n → variableOf k < x .n → entries (term x) ds ls r ≡ put (litAt (term x) k) c (entries (term x) cs ks n)
   pub fine : Fine t ls tl r
   pub grows : r ≤ n + 1
   pub under : (m : ℕ) → Under m ks n → variableOf k < m → Under m ls r
+  pub names : OverNames t ks n → OverName t k → OverNames t ls r
   pub bounded : (B C : ℕ) → Bounded B cs n → Within C c → Bounded (B + C) ds r
 
 abbrev pub PutAt : (t : List ℕ) (at : ℕ) (cs : List ℤ) (ks sl : List ℕ) (n k : ℕ) (c : ℤ) (ds : List ℤ) (ls tl : List ℕ) (r : ℕ) → Type 0
@@ -123,6 +135,7 @@ pub record AddIs (t : List ℕ) (cs : List ℤ) (ks : List ℕ) (n : ℕ) (bs : 
   pub is : (x : Text t) → Under (x .n) ks n → Under (x .n) ls m → entries (term x) ds ks' r ≡ addSums (entries (term x) cs ks n) (entries (term x) bs ls m)
   pub fine : Fine t ks' sl' r
   pub under : (l : ℕ) → Under l ks n → Under l ls m → Under l ks' r
+  pub names : OverNames t ks n → OverNames t ls m → OverNames t ks' r
   pub bounded : Bounded maxAdded ds r
 
 abbrev pub AddAt : (t : List ℕ) (at : ℕ) (cs : List ℤ) (ks sl : List ℕ) (n at2 m : ℕ) (ds : List ℤ) (ls tl : List ℕ) (r : ℕ) → Type 0

@@ -19,10 +19,6 @@ unfoldable pub indexOf : Lit → List Entry → ℕ
 indexOf k [] = 0
 indexOf k (e ∷ E) = cond (sameLit k (e .lit)) 0 (suc (indexOf k E))
 
--- every key is below: twice the nodes
-abbrev pub keyRoom : ℕ
-keyRoom = 8192
-
 -- the first n coefficients are within B
 abbrev pub Bounded : ℕ → List ℤ → ℕ → Type 0
 Bounded B cs n = (i : ℕ) → i < n → Within B (getD cs i (pos 0))
@@ -30,6 +26,10 @@ Bounded B cs n = (i : ℕ) → i < n → Within B (getD cs i (pos 0))
 -- a key's variable is a name
 abbrev pub OverName : List ℕ → ℕ → Type 0
 OverName t k = nameKind ≤ kindAt t (variableOf k)
+
+-- those of the first n keys are
+abbrev pub OverNames : (t ks : List ℕ) → ℕ → Type 0
+OverNames t ks n = (i : ℕ) → i < n → OverName t (getD ks i 0)
 
 -- the slot of a key holds the place of one of the first n keys, and that is this key
 abbrev pub Taken : (ks sl : List ℕ) → ℕ → ℕ → Type 0

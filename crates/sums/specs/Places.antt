@@ -1,12 +1,13 @@
 -- Where a sum stands in the lent arrays: its coefficients and its keys at its place, and its slots.
 use mathlib.Core.Path.{_≡_}
 use mathlib.Core.List.{List}
-use Prim.Native.Nat.{ℕ, zero, suc, _+_, _*_, _≤_, _<_}
+use Prim.Native.Nat.{ℕ, zero, suc, _+_, _*_, _/_, _≤_, _<_}
 use lib.IntN.{ℤ}
 use lib.ListN.{length}
+use Rattle.nodes.specs.Nodes.{capacity}
 use Rattle.matching.specs.Entries.{Literals}
 use Rattle.matching.specs.Places.{maxEntries, maxPlace, part, placed, Others}
-use Rattle.sums.specs.Lists.{keyRoom, Fine}
+use Rattle.sums.specs.Lists.{Fine}
 
 -- the places of a rule's sums: the first premise, the second, the conclusion
 abbrev pub leftAt : ℕ
@@ -18,26 +19,34 @@ rightAt = 1024
 abbrev pub conclusionAt : ℕ
 conclusionAt = 2048
 
+-- the keys that a sum has slots for: half of all slots are its own
+abbrev pub keyRoom : List ℕ → ℕ
+keyRoom sl = length sl / 2
+
 -- where the slots of a place begin: the first premise has its own; the second is looked up only while it is read, and the conclusion, which is read
 -- behind it, has the same
-unfoldable pub slotsOf : ℕ → ℕ
-slotsOf zero = 0
-slotsOf (suc at) = keyRoom
+unfoldable pub slotsOf : ℕ → ℕ → ℕ
+slotsOf room zero = 0
+slotsOf room (suc at) = room
 
 -- the slots of a place
 abbrev pub slotted : ℕ → List ℕ → List ℕ
-slotted at sl = part (slotsOf at) keyRoom sl
+slotted at sl = part (slotsOf (keyRoom sl) at) (keyRoom sl) sl
 
--- two places whose slots share nothing
+-- two places whose slots share nothing, however many there are
 abbrev pub Aside : ℕ → ℕ → Type 0
-Aside a b = (i j : ℕ) → i < keyRoom → j < keyRoom → slotsOf a + i ≡ slotsOf b + j → ⊥
+Aside a b = (room i j : ℕ) → i < room → j < room → slotsOf room a + i ≡ slotsOf room b + j → ⊥
 
--- the lent arrays can hold every sum at this place
-pub record Room (at : ℕ) (cs : List ℤ) (ks sl : List ℕ) : Type 0 where
+-- there is a slot for each key over the nodes of the table t
+abbrev pub Slotted : List ℕ → List ℕ → Type 0
+Slotted t sl = 2 * capacity t ≤ keyRoom sl
+
+-- the lent arrays can hold every sum over the table t at this place
+pub record Room (t : List ℕ) (at : ℕ) (cs : List ℤ) (ks sl : List ℕ) : Type 0 where
   pub few : at ≤ maxPlace
   pub coefficients : at + maxEntries ≤ length cs
   pub keys : at + maxEntries ≤ length ks
-  pub slots : slotsOf at + keyRoom ≤ length sl
+  pub slots : Slotted t sl
 
 -- n entries that can be read one by one, their coefficients at one place and their keys at one
 pub record Listed (t : List ℕ) (from at : ℕ) (cs : List ℤ) (ks : List ℕ) (n : ℕ) : Type 0 where
@@ -53,13 +62,13 @@ pub record Keyed (t : List ℕ) (at : ℕ) (ks sl : List ℕ) (n : ℕ) : Type 0
   pub few : at ≤ maxPlace
   pub fine : Fine t (placed at ks) (slotted at sl) n
   pub keys : at + maxEntries ≤ length ks
-  pub slots : slotsOf at + keyRoom ≤ length sl
+  pub slots : Slotted t sl
 
--- the lent arrays can hold all three sums of a rule
-pub record Rooms (cs : List ℤ) (ks sl : List ℕ) : Type 0 where
+-- the lent arrays can hold all three sums of a rule over the table t
+pub record Rooms (t : List ℕ) (cs : List ℤ) (ks sl : List ℕ) : Type 0 where
   pub coefficients : conclusionAt + maxEntries ≤ length cs
   pub keys : conclusionAt + maxEntries ≤ length ks
-  pub slots : 2 * keyRoom ≤ length sl
+  pub slots : Slotted t sl
 
 -- the arrays are as long as they were, and what stands in them at other places than this one is as it was
 pub record Elsewhere (at : ℕ) (cs : List ℤ) (ks sl : List ℕ) (ds : List ℤ) (ls tl : List ℕ) : Type 0 where

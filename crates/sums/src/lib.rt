@@ -23,9 +23,9 @@ ghost use Rattle.nodes.specs.Nodes.{decode, Node};
 ghost use Rattle.matching.specs.Entries.{Literals};
 ghost use Rattle.matching.specs.Matched.{variableOf, Variable};
 ghost use Rattle.matching.specs.Places.{maxEntries, maxPlace, placed, Put1, Apart, Others};
-ghost use Rattle.sums.specs.Lists.{Fine, Bounded, keyRoom, maxTotal, maxAdded, maxCoefficient};
-ghost use Rattle.sums.specs.Places.{slotsOf, slotted, Room, Listed, Keyed};
-ghost use Rattle.sums.specs.Found.{SameIs, PlaceIs, FindIs, AppendedAt, PutAt, SummandIs, Nodes, LoneIs, ReadAt, InequalityAt, KeptIs, SubsetIs, SameKeysIs, AddAt, CancelIs, ReduceIs};
+ghost use Rattle.sums.specs.Lists.{OverName, Fine, Bounded, maxTotal, maxAdded, maxCoefficient};
+ghost use Rattle.sums.specs.Places.{keyRoom, slotsOf, slotted, Room, Listed, Keyed};
+ghost use Rattle.sums.specs.Found.{SameIs, PlaceIs, FindIs, AppendedAt, FollowedAt, PutAt, SummandIs, Nodes, LoneIs, ReadAt, InequalityAt, KeptIs, SubsetIs, SameKeysIs, AddAt, CancelIs, ReduceIs};
 
 // Where the sums of a rule stand: the first premise's, the second's, the conclusion's.
 pub const LEFT: usize = 0;
@@ -37,10 +37,7 @@ pub const CONCLUSION: usize = 2048;
 // The entries that the three have room for, 1,024 each.
 pub const ENTRIES: usize = 3072;
 
-// The slots of one sum, a word for each key.
-const KEYS: usize = 8192;
-
-// The slots of two sums: the second premise and the conclusion have the same.
+// The slots of two sums over the nodes of a file, a word for each key: the second premise and the conclusion have the same.
 pub const SLOTS: usize = 16384;
 
 // ---- keys
@@ -77,21 +74,21 @@ fn walk(nodes: &[u32], keys: &[u32], at: usize, n: usize, key: u32) -> usize
 }
 
 // Where the slots of a place begin: the first premise has its own, the second the conclusion's, which is read behind it.
-fn slots_of(at: usize) -> usize
-    ensures { λ r. ⌜ (r ≡ slotsOf at) × (r ≤ keyRoom) ⌝ }
+fn slots_of(slots: &[u16], at: usize) -> usize
+    ensures { λ r. ⌜ (r ≡ slotsOf (keyRoom (now (slots .entry))) at) × (r ≤ keyRoom (now (slots .entry))) ⌝ }
 {
     if at == LEFT {
         return 0;
     }
-    KEYS
+    slots.len() / 2
 }
 
 // The slot of a key of the sum at a place.
-fn slot_of(at: usize, key: u32) -> usize
-    requires { ⌜ key < keyRoom ⌝ }
-    ensures { λ r. ⌜ (r ≡ slotsOf at + key) × (r < 2 * keyRoom) ⌝ }
+fn slot_of(slots: &[u16], at: usize, key: u32) -> usize
+    requires { ⌜ key < keyRoom (now slots) ⌝ }
+    ensures { λ r. ⌜ (r ≡ slotsOf (keyRoom (now (slots .entry))) at + key) × (r < 2 * keyRoom (now (slots .entry))) ⌝ }
 {
-    slots_of(at) + nodes::wide(key)
+    slots_of(slots, at) + nodes::wide(key)
 }
 
 // Where a key stands: of a name at once, of any other term by walking; the count where it is none.
@@ -103,7 +100,8 @@ pub fn find(nodes: &[u32], keys: &[u32], slots: &[u16], at: usize, n: usize, key
     if nodes::kind_of(nodes, nodes::wide(matching::variable_of(key))) < NAME_KIND {
         return walk(nodes, keys, at, n, key);
     }
-    let place = nodes::wide_short(slots[slot_of(at, key)]);
+    let slot = slot_of(slots, at, key);
+    let place = nodes::wide_short(slots[slot]);
     if place < n {
         if keys[at + place] == key {
             return place;
@@ -133,14 +131,40 @@ fn append(
     key: u32,
     c: i64,
 ) -> usize
-    requires { ⌜ Room at (now coeffs) (now keys) (now slots) ⌝ }
-    requires { ⌜ (n < maxEntries) × (key < keyRoom) ⌝ }
+    requires { ⌜ (at ≤ maxPlace) × (at + maxEntries ≤ length (now coeffs)) × (at + maxEntries ≤ length (now keys)) ⌝ }
+    requires { ⌜ (n < maxEntries) × (key < keyRoom (now slots)) ⌝ }
     ensures { λ r. ⌜ AppendedAt at (now (coeffs .entry)) (now (keys .entry)) (now (slots .entry)) n key c (now (coeffs .exit)) (now (keys .exit)) (now (slots .exit)) r ⌝ }
 {
     coeffs[at + n] = c;
     keys[at + n] = key;
-    slots[slot_of(at, key)] = n as u16;
+    let slot = slot_of(slots, at, key);
+    slots[slot] = n as u16;
     n + 1
+}
+
+// One entry more behind n, whatever stands before it; a key that stands there already keeps its slot.
+pub fn follow(
+    nodes: &[u32],
+    coeffs: &mut [i64],
+    keys: &mut [u32],
+    slots: &mut [u16],
+    at: usize,
+    n: usize,
+    key: u32,
+    c: i64,
+) -> usize
+    requires { ⌜ Variable (now nodes) (variableOf key) × OverName (now nodes) key ⌝ }
+    requires { ⌜ Room (now nodes) at (now coeffs) (now keys) (now slots) ⌝ }
+    requires { ⌜ Fine (now nodes) (placed at (now keys)) (slotted at (now slots)) n × (n < maxEntries) ⌝ }
+    ensures { λ r. ⌜ FollowedAt (now (nodes .entry)) at (now (coeffs .entry)) (now (keys .entry)) (now (slots .entry)) n key c (now (coeffs .exit)) (now (keys .exit)) (now (slots .exit)) r ⌝ }
+{
+    let i = find(nodes, keys, slots, at, n, key);
+    if i < n {
+        coeffs[at + n] = c;
+        keys[at + n] = key;
+        return n + 1;
+    }
+    append(coeffs, keys, slots, at, n, key, c)
 }
 
 // Adds c to the coefficient of a key, or makes it a new key: repeated literals have their coefficients added together.
@@ -155,7 +179,7 @@ pub fn put(
     c: i64,
 ) -> usize
     requires { ⌜ Variable (now nodes) (variableOf key) ⌝ }
-    requires { ⌜ Room at (now coeffs) (now keys) (now slots) ⌝ }
+    requires { ⌜ Room (now nodes) at (now coeffs) (now keys) (now slots) ⌝ }
     requires { ⌜ Fine (now nodes) (placed at (now keys)) (slotted at (now slots)) n × (n < maxEntries) ⌝ }
     requires { ⌜ Bounded maxCoefficient (placed at (now coeffs)) n ⌝ }
     requires { ⌜ Within maxCoefficient c ⌝ }
@@ -207,7 +231,7 @@ fn read_summands(
     at: usize,
 ) -> Read
     requires { ⌜ Nodes (now nodes) (now ts) top × (length (now ts) ≤ maxSummands) ⌝ }
-    requires { ⌜ Room at (now coeffs) (now keys) (now slots) ⌝ }
+    requires { ⌜ Room (now nodes) at (now coeffs) (now keys) (now slots) ⌝ }
     ensures { λ r. ⌜ ReadAt (now (nodes .entry)) top (λ (s : List ℕ). summands (listed (map (decode s (now (nodes .entry))) (now (ts .entry)))) []) at (now (coeffs .entry)) (now (keys .entry)) (now (slots .entry)) (now (coeffs .exit)) (now (keys .exit)) (now (slots .exit)) r ⌝ }
 {
     let mut n: usize = 0;
@@ -251,7 +275,7 @@ pub fn get_pb_hashmap(
     at: usize,
 ) -> Read
     requires { ⌜ Node (now nodes) i ⌝ }
-    requires { ⌜ Room at (now coeffs) (now keys) (now slots) ⌝ }
+    requires { ⌜ Room (now nodes) at (now coeffs) (now keys) (now slots) ⌝ }
     ensures { λ r. ⌜ ReadAt (now (nodes .entry)) (suc i) (λ (s : List ℕ). pbSum (decode s (now (nodes .entry)) i)) at (now (coeffs .entry)) (now (keys .entry)) (now (slots .entry)) (now (coeffs .exit)) (now (keys .exit)) (now (slots .exit)) r ⌝ }
 {
     let one = [i; 1];
@@ -300,7 +324,7 @@ pub fn unwrap_pseudoboolean_inequality(
     at: usize,
 ) -> Inequality
     requires { ⌜ Node (now nodes) i ⌝ }
-    requires { ⌜ Room at (now coeffs) (now keys) (now slots) ⌝ }
+    requires { ⌜ Room (now nodes) at (now coeffs) (now keys) (now slots) ⌝ }
     ensures { λ r. ⌜ InequalityAt (now (nodes .entry)) i at (now (coeffs .entry)) (now (keys .entry)) (now (slots .entry)) (now (coeffs .exit)) (now (keys .exit)) (now (slots .exit)) r ⌝ }
 {
     match matching::binary(nodes, GE, i) {
@@ -414,7 +438,7 @@ pub fn add_pbsums(
     at2: usize,
     m: usize,
 ) -> usize
-    requires { ⌜ Room at (now coeffs) (now keys) (now slots) × Apart at at2 ⌝ }
+    requires { ⌜ Room (now nodes) at (now coeffs) (now keys) (now slots) × Apart at at2 ⌝ }
     requires { ⌜ Fine (now nodes) (placed at (now keys)) (slotted at (now slots)) n × (n ≤ maxSummands) × Bounded maxTotal (placed at (now coeffs)) n ⌝ }
     requires { ⌜ Listed (now nodes) at2 at2 (now coeffs) (now keys) m × (m ≤ maxSummands) × Bounded maxTotal (placed at2 (now coeffs)) m ⌝ }
     ensures { λ r. ⌜ AddAt (now (nodes .entry)) at (now (coeffs .entry)) (now (keys .entry)) (now (slots .entry)) n at2 m (now (coeffs .exit)) (now (keys .exit)) (now (slots .exit)) r ⌝ }

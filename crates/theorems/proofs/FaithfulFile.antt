@@ -10,7 +10,7 @@ use lib.ListN.{length, length-append}
 use Rattle.calculus.specs.Commands.{enough, newId, premise, premises, premisesAt, argsAt, ruleAmong, ruleOf, onRule, ruleAt, assumeAt, stepAt, commandAt, Read, whole, refused, begin, halt, onLead, leadAt, onCommand, onRead, commands, readBehind, readFile}
 use Rattle.calculus.specs.Grammar.{Reads, got, off, then, sameMark, expect, nameAt, closeAt, term, items}
 use Rattle.calculus.specs.Terms.{Term, sameName, Rule, part, Command, assume, step, listed, ruleText}
-use Rattle.calculus.specs.Words.{Res, ok, bad, Mark, opening, closing, cl-word, assume-word, step-word, rule-word, premises-word, args-word, Word, mark, operator, numeral, name}
+use Rattle.calculus.specs.Words.{Res, ok, bad, Mark, opening, closing, cl-word, assume-word, step-word, rule-word, premises-word, args-word, Word, mark, operator, numeral, name, negated-name}
 use Rattle.calculus.specs.Tokens.{Token, ended, word, wrong, tokenAt}
 use Rattle.calculus.specs.Limits.{maxNodes, maxText, maxCommands, known, nodes, nodesIn, fits, fitAll, allKnown, allowed, allowedBehind, commandNodes, allNodes}
 use Rattle.calculus.specs.Writing.{termWords, termsWords, nameWords, premisesWords, argsWords, commandWords, wordsOf, Has, IsReadBehind, IsRead}
@@ -262,6 +262,7 @@ lead-got k cs j (word (mark b) p u) ds e = go (sameMark b opening) (ltb j maxCom
 lead-got k cs j (word (operator o) p u) ds e = absurd (refused-whole e)
 lead-got k cs j (word (numeral z) p u) ds e = absurd (refused-whole e)
 lead-got k cs j (word (name x) p u) ds e = absurd (refused-whole e)
+lead-got k cs j (word (negated-name x) p u) ds e = absurd (refused-whole e)
 lead-got k cs j (wrong x p) ds e = absurd (refused-whole e)
 
 -- the commands behind cs, up to the text's end

@@ -8,7 +8,7 @@ use native.Mathlib.Omega.{arith}
 use lib.Dec.{T, eqb→eq, leb, ltb, ltb→lt}
 use Rattle.calculus.specs.Grammar.{markOf, Reads, got, off, then, markNumber, sameMark, onMark, onOption, onName, onClose, Head, leaf, stop, limited, onOperator, onTerm, onHead, onItem}
 use Rattle.calculus.specs.Terms.{Op, Term, num, var}
-use Rattle.calculus.specs.Words.{Mark, opening, closing, cl-word, assume-word, step-word, rule-word, premises-word, args-word, Word, mark, operator, numeral, name}
+use Rattle.calculus.specs.Words.{Mark, opening, closing, cl-word, assume-word, step-word, rule-word, premises-word, args-word, Word, mark, operator, numeral, name, negated-name}
 use Rattle.calculus.specs.Tokens.{Token, ended, word, wrong, tokenAt}
 use Rattle.calculus.specs.Limits.{maxDepth, maxNodes, nodes, fits}
 use Rattle.calculus.specs.Writing.{termWords}
@@ -57,6 +57,7 @@ mark-got {A} m k (word (mark b) p u) a t n e = go (sameMark b m) (sameMark-eq b 
 mark-got m k (word (operator o) p u) a t n e = absurd (off-got e)
 mark-got m k (word (numeral z) p u) a t n e = absurd (off-got e)
 mark-got m k (word (name x) p u) a t n e = absurd (off-got e)
+mark-got m k (word (negated-name x) p u) a t n e = absurd (off-got e)
 mark-got m k (wrong x p) a t n e = absurd (off-got e)
 
 pub option-got : {A : Type 0} (m : Mark) (k : ℕ → Reads A) (r : Reads A) (w : Token) (a : A) (t n : ℕ) → onOption m k r w ≡ got a t n → ((p : ℕ) × (u : ℕ) × (w ≡ word (mark m) p u) × (k u ≡ got a t n)) ⊎ (r ≡ got a t n)
@@ -70,6 +71,7 @@ option-got m k r (word (mark b) p u) a t n e = go (sameMark b m) (sameMark-eq b 
 option-got m k r (word (operator o) p u) a t n e = inr e
 option-got m k r (word (numeral z) p u) a t n e = inr e
 option-got m k r (word (name x) p u) a t n e = inr e
+option-got m k r (word (negated-name x) p u) a t n e = inr e
 option-got m k r (wrong x p) a t n e = inr e
 
 pub name-got : {A : Type 0} (k : List ℕ → ℕ → ℕ → Reads A) (w : Token) (a : A) (t n : ℕ) → onName k w ≡ got a t n → (x : List ℕ) × (p : ℕ) × (u : ℕ) × (w ≡ word (name x) p u) × (k x p u ≡ got a t n)
@@ -79,6 +81,7 @@ name-got k (word (mark b) p u) a t n e = absurd (off-got e)
 name-got k (word (operator o) p u) a t n e = absurd (off-got e)
 name-got k (word (numeral z) p u) a t n e = absurd (off-got e)
 name-got k (word (name x) p u) a t n e = (x, p, u, refl, e)
+name-got k (word (negated-name x) p u) a t n e = absurd (off-got e)
 name-got k (wrong x p) a t n e = absurd (off-got e)
 
 pub cond-got : {A : Type 0} (c : Bool) (e p : ℕ) (r : Reads A) (a : A) (t n : ℕ) → cond c (off e p) r ≡ got a t n → T (not c) × (r ≡ got a t n)
@@ -100,6 +103,7 @@ close-is (word (mark b) p u) t e = go (sameMark b closing) (sameMark-eq b closin
 close-is (word (operator o) p u) t e = let z : ⊥ = omega arith in absurd z
 close-is (word (numeral y) p u) t e = let z : ⊥ = omega arith in absurd z
 close-is (word (name x) p u) t e = let z : ⊥ = omega arith in absurd z
+close-is (word (negated-name x) p u) t e = let z : ⊥ = omega arith in absurd z
 close-is (wrong x p) t e = let z : ⊥ = omega arith in absurd z
 
 -- the closing bracket stood there and the items are all; or one more was read
@@ -123,6 +127,7 @@ operator-got k n (word (mark b) p u) x t m e = absurd (off-got e)
 operator-got k n (word (operator o) p u) x t m e = (o, p, u, refl, e)
 operator-got k n (word (numeral z) p u) x t m e = absurd (off-got e)
 operator-got k n (word (name y) p u) x t m e = absurd (off-got e)
+operator-got k n (word (negated-name y) p u) x t m e = absurd (off-got e)
 operator-got k n (wrong y p) x t m e = absurd (off-got e)
 
 limited-got : (k : Op → ℕ → Reads Term) (l n p : ℕ) (h : Head) (x : Term) (t m : ℕ) → onHead k n (limited l n p h) ≡ got x t m → T (leb l maxDepth) × (n < maxNodes) × (onHead k n h ≡ got x t m)
@@ -160,4 +165,5 @@ head-got s k l n (word (numeral z) p u) x t m e =
 head-got s k l n (word (name y) p u) x t m e =
     let (d, r, h) = limited-got k l n p (leaf (var y) u) x t m e in
     leaf-begun s k l n p u (var y) (name y) x t m h (unfold termWords in refl) (unfold fits in d) (unfold nodes in refl) r
+head-got s k l n (word (negated-name y) p u) x t m e = absurd (off-got e)
 head-got s k l n (wrong y p) x t m e = absurd (off-got e)

@@ -9,12 +9,12 @@ use lib.IntN.{ℤ}
 use lib.ListN.{length, take, drop}
 use Rattle.calculus.specs.Bytes.{isBlank, isDigit, isLetter, inName, inWord, classOf, opens, closes}
 use Rattle.calculus.specs.Terms.{sameName, Command, assume, step, idOf}
-use Rattle.calculus.specs.Words.{Res, ok, bad, bind, Mark, opening, closing, Word, mark, operator, numeral, name, wordOf, wordText, fixedOr, fixedWords, nameOf, nameBytes, isNameText, maxName, numeralFirst, numeralOf}
+use Rattle.calculus.specs.Words.{Res, ok, bad, bind, Mark, opening, closing, Word, mark, operator, numeral, name, wordOf, wordText, fixedOr, fixedWords, nameOf, nameBytes, isNameText, maxName, numeralFirst, numeralOf, negated-name, behindTilde, tildeFirst}
 use Rattle.calculus.specs.Tokens.{word, wrong, tokenAt, tokenFrom, tokenBehind, span, judged}
 use Rattle.calculus.specs.Writing.{commandWords, wordsOf, Has}
 use Rattle.calculus.proofs.Booleans.{and-l, and-r}
 use Rattle.theorems.proofs.Lines.{Clean, CleanIds}
-use Rattle.theorems.proofs.Reading.{bind-ok, ensure-ok, ok-inj}
+use Rattle.theorems.proofs.Reading.{bind-ok, ensure-ok, ok-inj, ok-bad}
 
 -- ---- a name's bytes
 letter-clean : (b : ℕ) → T (isLetter b) → T (not (eqb b 10))
@@ -41,6 +41,7 @@ fixed (mark m) = true
 fixed (operator o) = true
 fixed (numeral z) = true
 fixed (name x) = false
+fixed (negated-name x) = true
 
 allFixed : List Word → Bool
 allFixed [] = true
@@ -62,17 +63,32 @@ fixed-words = tt
 numeral-name : {z : ℤ} {x : List ℕ} → numeral z ≡ name x → ⊥
 numeral-name e = let z : _≡_ {A = ℕ} 0 1 = cc in omega arith
 
-pub word-name : (bs x : List ℕ) → wordOf bs ≡ ok (name x) → T (isNameText x)
-unfolding wordOf nameOf
-word-name bs x e = go (numeralFirst bs) e
+-- `~` makes no name
+tilde-name : (w : Word) (x : List ℕ) → behindTilde w ≡ ok (name x) → ⊥
+unfolding behindTilde
+tilde-name (mark m) x e = ok-bad e
+tilde-name (operator o) x e = ok-bad e
+tilde-name (numeral z) x e = ok-bad e
+tilde-name (name y) x e = let z : _≡_ {A = ℕ} 0 1 = cc in omega arith
+tilde-name (negated-name y) x e = ok-bad e
+
+-- a name is no fixed word
+pub word-fixed : (bs x : List ℕ) → wordOf bs ≡ ok (name x) → fixedOr fixedWords bs ≡ ok (name x)
+unfolding wordOf
+word-fixed bs x e = go (numeralFirst bs) (tildeFirst bs) e
   where
-    go : (c : Bool) → cond c (bind (numeralOf bs) (λ z. ok (numeral z))) (fixedOr fixedWords bs) ≡ ok (name x) → T (isNameText x)
-    go true e = let (z, h, g) = bind-ok (numeralOf bs) (λ z. ok (numeral z)) (name x) e in absurd (numeral-name (ok-inj g))
-    go false e =
-        let (h, g) = ensure-ok (isNameText bs && leb (length bs) maxName) 5 (ok (name bs)) (name x) (fixed-name fixedWords bs x fixed-words e) in
-        let f : name bs ≡ name x = ok-inj g in
-        let k : bs ≡ x = cc in
-        subst (λ (y : List ℕ). T (isNameText y)) k (and-l (isNameText bs) _ h)
+    go : (c d : Bool) → cond c (bind (numeralOf bs) (λ z. ok (numeral z))) (cond d (bind (fixedOr fixedWords (drop 1 bs)) behindTilde) (fixedOr fixedWords bs)) ≡ ok (name x) → fixedOr fixedWords bs ≡ ok (name x)
+    go true d e = let (z, h, g) = bind-ok (numeralOf bs) (λ z. ok (numeral z)) (name x) e in absurd (numeral-name (ok-inj g))
+    go false true e = let (w, h, g) = bind-ok (fixedOr fixedWords (drop 1 bs)) behindTilde (name x) e in absurd (tilde-name w x g)
+    go false false e = e
+
+pub word-name : (bs x : List ℕ) → wordOf bs ≡ ok (name x) → T (isNameText x)
+unfolding nameOf
+word-name bs x e =
+    let (h, g) = ensure-ok (isNameText bs && leb (length bs) maxName) 5 (ok (name bs)) (name x) (fixed-name fixedWords bs x fixed-words (word-fixed bs x e)) in
+    let f : name bs ≡ name x = ok-inj g in
+    let k : bs ≡ x = cc in
+    subst (λ (y : List ℕ). T (isNameText y)) k (and-l (isNameText bs) _ h)
 
 judged-name : (p t : ℕ) (r : Res Word) (x : List ℕ) (q u : ℕ) → judged p t r ≡ word (name x) q u → r ≡ ok (name x)
 unfolding judged

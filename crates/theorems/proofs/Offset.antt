@@ -7,13 +7,16 @@ use native.Mathlib.Omega.{arith}
 use lib.Dec.{leb, ltb, eqb, le→leb}
 use lib.ListN.{length, take, drop}
 use lib.Seq.{drop-append-seam, drop-drop}
-use Rattle.calculus.specs.Bytes.{isBlank, inWord, classOf, opens, closes}
+use lib.IntN.{ℤ}
+use Rattle.calculus.specs.Bytes.{isBlank, inWord, classOf, opens, closes, bytes}
 use Rattle.calculus.specs.Commands.{enough, newId, premise, premises, premisesAt, argsAt, ruleOf, onRule, ruleAt, assumeAt, stepAt, commandAt, Read, whole, refused, Lead, finish, begin, halt, onLead, leadAt, onCommand, onRead, commands, readBehind}
 use Rattle.calculus.specs.Grammar.{Reads, got, off, then, sameMark, onMark, expect, onOption, onName, nameAt, onClose, closeAt, Head, leaf, start, stop, limited, onOperator, onTerm, headAt, onHead, onItem, term, items}
-use Rattle.calculus.specs.Terms.{Op, Term, num, var, app, listed, Rule, Command, assume, step}
-use Rattle.calculus.specs.Words.{Res, ok, bad, Mark, opening, closing, cl-word, assume-word, step-word, rule-word, premises-word, args-word, Word, mark, operator, numeral, name, wordOf}
+use Rattle.calculus.specs.Terms.{Op, Term, num, var, app, listed, Rule, Command, assume, step, add, mul, sameName, PolWord, line-word, plain-word, plus-word, saturate-word, times-word, over-word}
+use Rattle.calculus.specs.Words.{Res, ok, bad, Mark, opening, closing, cl-word, assume-word, step-word, rule-word, premises-word, args-word, Word, mark, operator, numeral, name, wordOf, negated-name}
 use Rattle.calculus.specs.Tokens.{Token, ended, word, wrong, span, judged, tokenFrom, tokenBehind, tokenAt}
 use Rattle.calculus.specs.Limits.{known, maxNodes, maxDepth, maxText, maxCommands, allNodes}
+use Rattle.calculus.specs.Equality.{sameOp}
+use Rattle.calculus.specs.PolGrammar.{onFactor, namedWord, onWord, wordAt, moreWords, wordsAt}
 use Rattle.calculus.proofs.Booleans.{is-true}
 use Rattle.calculus.proofs.Tokens.{token-later}
 
@@ -89,6 +92,7 @@ module _ (m : ℕ) where
   mark-later a k j (word (operator o) p t) h = refl
   mark-later a k j (word (numeral z) p t) h = refl
   mark-later a k j (word (name x) p t) h = refl
+  mark-later a k j (word (negated-name x) p t) h = refl
   mark-later a k j (wrong e p) h = refl
 
   option-later : {A : Type 0} (a : Mark) (k j : ℕ → Reads A) (r q : Reads A) (w : Token) → Later k j → r ≡ laterReads m q → onOption a k r (laterToken m w) ≡ laterReads m (onOption a j q w)
@@ -98,6 +102,7 @@ module _ (m : ℕ) where
   option-later a k j r q (word (operator o) p t) h e = e
   option-later a k j r q (word (numeral z) p t) h e = e
   option-later a k j r q (word (name x) p t) h e = e
+  option-later a k j r q (word (negated-name x) p t) h e = e
   option-later a k j r q (wrong x p) h e = e
 
   name-later : {A : Type 0} (k j : List ℕ → ℕ → ℕ → Reads A) (w : Token) → ((x : List ℕ) (p t : ℕ) → k x (m + p) (m + t) ≡ laterReads m (j x p t)) → onName k (laterToken m w) ≡ laterReads m (onName j w)
@@ -107,6 +112,7 @@ module _ (m : ℕ) where
   name-later k j (word (operator o) p t) h = refl
   name-later k j (word (numeral z) p t) h = refl
   name-later k j (word (name x) p t) h = h x p t
+  name-later k j (word (negated-name x) p t) h = refl
   name-later k j (wrong e p) h = refl
 
   limited-later : (l n p : ℕ) (h g : Head) → h ≡ laterHead m g → limited l n (m + p) h ≡ laterHead m (limited l n p g)
@@ -124,6 +130,7 @@ module _ (m : ℕ) where
   operator-later (word (operator o) p t) = refl
   operator-later (word (numeral z) p t) = refl
   operator-later (word (name x) p t) = refl
+  operator-later (word (negated-name x) p t) = refl
   operator-later (wrong e p) = refl
 
   head-later : (k j : Op → ℕ → Reads Term) (n : ℕ) (h : Head) → ((o : Op) (t : ℕ) → k o (m + t) ≡ laterReads m (j o t)) → onHead k n (laterHead m h) ≡ laterReads m (onHead j n h)
@@ -148,7 +155,25 @@ module _ (m : ℕ) where
   item-later r q xs n (word (operator o) p t) e h = e
   item-later r q xs n (word (numeral z) p t) e h = e
   item-later r q xs n (word (name x) p t) e h = e
+  item-later r q xs n (word (negated-name x) p t) e h = e
   item-later r q xs n (wrong x p) e h = e
+
+  factor-later : (z : ℤ) (n : ℕ) (w : Token) → onFactor z n (laterToken m w) ≡ laterReads m (onFactor z n w)
+  unfolding onFactor laterToken laterReads
+  factor-later z n (ended p) = refl
+  factor-later z n (word (mark a) p t) = refl
+  factor-later z n (word (operator o) p t) = cond-later (sameOp mul o) (got (times-word z) (m + t) n) (off 6 (m + p)) (got (times-word z) t n) (off 6 p) refl refl
+  factor-later z n (word (numeral y) p t) = refl
+  factor-later z n (word (name x) p t) = cond-later (sameName (bytes "d") x) (got (over-word z) (m + t) n) (off 6 (m + p)) (got (over-word z) t n) (off 6 p) refl refl
+  factor-later z n (word (negated-name x) p t) = refl
+  factor-later z n (wrong e p) = refl
+
+  named-word-later : (above : List ℕ → Bool) (n : ℕ) (x : List ℕ) (p t : ℕ) → namedWord above n x (m + p) (m + t) ≡ laterReads m (namedWord above n x p t)
+  unfolding namedWord laterReads
+  named-word-later above n x p t =
+      cond-later (sameName (bytes "d") x) (off 6 (m + p)) _ (off 6 p) _ refl
+      (cond-later (sameName (bytes "s") x) (got saturate-word (m + t) n) _ (got saturate-word t n) _ refl
+      (cond-later (above x) (got (line-word x) (m + t) n) (got (plain-word x) (m + t) n) (got (line-word x) t n) (got (plain-word x) t n) refl refl))
 
   rule-later : {A : Type 0} (k j : Rule → Reads A) (p : ℕ) (r : Res Rule) → ((r : Rule) → k r ≡ laterReads m (j r)) → onRule k (m + p) r ≡ laterReads m (onRule j p r)
   unfolding onRule laterReads
@@ -167,6 +192,7 @@ module _ (m : ℕ) where
   lead-later i (word (operator o) p t) = refl
   lead-later i (word (numeral z) p t) = refl
   lead-later i (word (name x) p t) = refl
+  lead-later i (word (negated-name x) p t) = refl
   lead-later i (wrong e p) = refl
 
   command-later : (k j : ℕ → Read) (cs : List Command) (l : Lead) → ((t : ℕ) → k (m + t) ≡ laterRead m (j t)) → onCommand k cs (laterLead m l) ≡ laterRead m (onCommand j cs l)
@@ -229,6 +255,7 @@ module _ (o s : List ℕ) where
   on-term-behind l n (word (operator x) p t) = refl
   on-term-behind l n (word (numeral z) p t) = limited-later m l n p (leaf (num z) (m + t)) (leaf (num z) t) (unfold laterHead in refl)
   on-term-behind l n (word (name x) p t) = limited-later m l n p (leaf (var x) (m + t)) (leaf (var x) t) (unfold laterHead in refl)
+  on-term-behind l n (word (negated-name x) p t) = refl
   on-term-behind l n (wrong e p) = refl
 
   head-behind : (at l n : ℕ) → headAt u (m + at) l n ≡ laterHead m (headAt s at l n)
@@ -307,6 +334,32 @@ module _ (o s : List ℕ) where
       id-behind cs at _ _ (λ d t. expect-behind opening t _ _ (λ t. expect-behind cl-word t _ _ (λ t. then-later m (items enough u (m + t) 1 n []) (items enough s t 1 n []) _ _ (behind enough .some-items t 1 n []) (λ c t i.
       expect-behind rule-word t _ _ (λ t. rule-behind t _ _ (λ r t. then-later m (premisesAt cs u (m + t) i) (premisesAt cs s t i) _ _ (premisesAt-behind cs t i) (λ ds t i. then-later m (argsAt u (m + t) i) (argsAt s t i) _ _ (argsAt-behind t i) (λ xs t i.
       expect-behind closing t _ _ (λ t. got-later (step d c r ds xs) t i)))))))))
+
+  -- ---- the words of a pol line
+  on-word-behind : (above : List ℕ → Bool) (n : ℕ) (w : Token) → onWord above u n (laterToken m w) ≡ laterReads m (onWord above s n w)
+  unfolding onWord laterToken laterReads
+  on-word-behind above n (ended p) = refl
+  on-word-behind above n (word (mark a) p t) = refl
+  on-word-behind above n (word (operator x) p t) = cond-later m (sameOp add x) (got plus-word (m + t) n) (off 6 (m + p)) (got plus-word t n) (off 6 p) refl refl
+  on-word-behind above n (word (numeral z) p t) = ap (onFactor z n) (token-behind t) ∙ factor-later m z n (tokenAt s t)
+  on-word-behind above n (word (name x) p t) = named-word-later m above n x p t
+  on-word-behind above n (word (negated-name x) p t) = refl
+  on-word-behind above n (wrong e p) = refl
+
+  word-behind : (above : List ℕ → Bool) (at n : ℕ) → wordAt above u (m + at) n ≡ laterReads m (wordAt above s at n)
+  unfolding wordAt
+  word-behind above at n = ap (onWord above u n) (token-behind at) ∙ on-word-behind above n (tokenAt s at)
+
+  more-behind : (f : ℕ) (above : List ℕ → Bool) (at n : ℕ) (ws : List PolWord) → moreWords f above u (m + at) n ws ≡ laterReads m (moreWords f above s at n ws)
+  unfolding moreWords laterReads
+  more-behind zero above at n ws = refl
+  more-behind (suc f) above at n ws =
+      item-behind (then (wordAt above u (m + at) n) (λ w t i. moreWords f above u t i (ws ++ (w ∷ [])))) (then (wordAt above s at n) (λ w t i. moreWords f above s t i (ws ++ (w ∷ [])))) ws n at
+      (then-later m (wordAt above u (m + at) n) (wordAt above s at n) _ _ (word-behind above at n) (λ w t i. more-behind f above t i (ws ++ (w ∷ []))))
+
+  words-behind : (f : ℕ) (above : List ℕ → Bool) (at n : ℕ) → wordsAt f above u (m + at) n ≡ laterReads m (wordsAt f above s at n)
+  unfolding wordsAt
+  words-behind f above at n = then-later m (wordAt above u (m + at) n) (wordAt above s at n) _ _ (word-behind above at n) (λ w t i. more-behind f above t i (w ∷ []))
 
   command-behind : (cs : List Command) (at n : ℕ) → commandAt cs u (m + at) n ≡ laterReads m (commandAt cs s at n)
   unfolding commandAt

@@ -13,7 +13,8 @@ use Rattle.calculus.specs.Words.{decimal, magnitude, maxNumeral}
 use Rattle.calculus.specs.Limits.{known, fits, fitAll, some, allowed, allowedBehind, Limits}
 use Rattle.calculus.specs.Writing.{IsReadBehind}
 use Rattle.calculus.specs.OpbWords.{Literal, plain, negated, atLeast, equal}
-use Rattle.calculus.specs.OpbWriting.{Summand, times, Constraint, compare, literalTerm, summandTerm, summandTerms, sumTerm, inequality, turned, constraintId, assumptionsOf, assumptionsBehind, assumptions, IsOpb}
+use Rattle.calculus.specs.OpbWriting.{Summand, times, Constraint, compare, inequality, turned, constraintId, assumptionsOf, assumptionsBehind, assumptions, IsOpb, keyOf, entryOf, entriesOf}
+use Rattle.calculus.specs.Entries.{litTerm, entryTerm, entryTerms, sumTerm, inequalityTerm}
 use Rattle.calculus.proofs.Booleans.{and-l, and-r, and-mk, or-elim, or-l, or-r}
 use Rattle.theorems.proofs.Decimal.{decimal-magnitude}
 use Rattle.theorems.proofs.Reading.{ok-inj}
@@ -118,25 +119,25 @@ id-new before n e l = not-T (known before (constraintId (suc n))) (λ t.
 
 -- ---- the limits
 -- a summand fits where it stands alone and where it stands in a sum
-summand-fits : (k : ℤ) (l : Literal) → T (fits 2 (summandTerm (times k l))) × T (fits 3 (summandTerm (times k l)))
-unfolding fits some summandTerm literalTerm
+summand-fits : (k : ℤ) (l : Literal) → T (fits 2 (entryTerm (entryOf (times k l)))) × T (fits 3 (entryTerm (entryOf (times k l))))
+unfolding fits some entryTerm litTerm entryOf keyOf
 summand-fits k (plain x) = (tt, tt)
 summand-fits k (negated x) = (tt, tt)
 
-summands-fit : (xs : List Summand) → T (fitAll 3 (summandTerms xs))
-unfolding fits summandTerms
+summands-fit : (xs : List Summand) → T (fitAll 3 (entryTerms (entriesOf xs)))
+unfolding fits entryTerms entriesOf
 summands-fit [] = tt
-summands-fit (times k l ∷ xs) = and-mk (fits 3 (summandTerm (times k l))) _ (summand-fits k l .1) (summands-fit xs)
+summands-fit (times k l ∷ xs) = and-mk (fits 3 (entryTerm (entryOf (times k l)))) _ (summand-fits k l .1) (summands-fit xs)
 
-sum-fits : (xs : List Summand) → T (fits 2 (sumTerm xs))
-unfolding fits some sumTerm summandTerms
+sum-fits : (xs : List Summand) → T (fits 2 (sumTerm (entriesOf xs)))
+unfolding fits some sumTerm entryTerms entriesOf
 sum-fits [] = tt
 sum-fits (times k l ∷ []) = summand-fits k l .0
 sum-fits (x ∷ (y ∷ xs)) = summands-fit (x ∷ (y ∷ xs))
 
 inequality-fits : (xs : List Summand) (k : ℤ) → T (fits 1 (inequality xs k))
-unfolding fits some inequality
-inequality-fits xs k = and-mk (fits 2 (sumTerm xs)) true (sum-fits xs) tt
+unfolding fits some inequality inequalityTerm
+inequality-fits xs k = and-mk (fits 2 (sumTerm (entriesOf xs))) true (sum-fits xs) tt
 
 allowed-append : (before cs ds : List Command) → T (allowedBehind before cs) → T (allowedBehind (before ++ cs) ds) → T (allowedBehind before (cs ++ ds))
 unfolding allowedBehind

@@ -12,32 +12,33 @@ use Rattle.integer.proofs.Parts.{int, link, ‹_›, lit, _⊕_, _⊖_, _⊗_, 
 use Rattle.calculus.specs.Terms.{Command, assume, step}
 use Rattle.calculus.specs.Truth.{Assignment, bit, sumZ, prodZ, lessZ, valOp, val, vals, arithmeticOp, isArithmetic, areArithmetic, two, statementOp, isStatement, pairOf, truthOp, truth, clauseOf, clausesOf, Satisfies, Models}
 use Rattle.calculus.specs.OpbWords.{Literal, plain, negated, atLeast, equal}
-use Rattle.calculus.specs.OpbWriting.{Summand, times, Constraint, compare, literalTerm, summandTerm, summandTerms, sumTerm, inequality, turned, assumptionsOf, assumptionsBehind, assumptions}
+use Rattle.calculus.specs.OpbWriting.{Summand, times, Constraint, compare, inequality, turned, assumptionsOf, assumptionsBehind, assumptions, keyOf, entryOf, entriesOf}
 use Rattle.calculus.specs.OpbTruth.{literalValue, sumValue, MakesTrue, Solves}
+use Rattle.calculus.specs.Entries.{litTerm, entryTerm, entryTerms, sumTerm, inequalityTerm}
 use Rattle.calculus.proofs.Booleans.{and-mk}
 use Rattle.theorems.proofs.RulesSound.{AllSat}
 
 -- ---- values
-literal-value : (σ : Assignment) (l : Literal) → val σ (literalTerm l) ≡ literalValue σ l
-unfolding val valOp lessZ sumZ literalTerm literalValue
+literal-value : (σ : Assignment) (l : Literal) → val σ (litTerm (keyOf l)) ≡ literalValue σ l
+unfolding val valOp lessZ sumZ litTerm keyOf literalValue
 literal-value σ (plain x) = refl
 literal-value σ (negated x) = omega (int, link (lit 1 ⊖ (‹ bit (σ x) › ⊕ lit 0)), link (lit 1 ⊖ ‹ bit (σ x) ›))
 
 times-one : (k v w : ℤ) → v ≡ w → (k *ℤ (v *ℤ pos 1)) ≡ k *ℤ w
 times-one k v w e = ap (λ (z : ℤ). k *ℤ (z *ℤ pos 1)) e ∙ omega (int, link (‹ k › ⊗ (‹ w › ⊗ lit 1)), link (‹ k › ⊗ ‹ w ›))
 
-summand-value : (σ : Assignment) (k : ℤ) (l : Literal) → val σ (summandTerm (times k l)) ≡ k *ℤ literalValue σ l
-unfolding val valOp prodZ summandTerm
-summand-value σ k l = times-one k (val σ (literalTerm l)) (literalValue σ l) (literal-value σ l)
+summand-value : (σ : Assignment) (k : ℤ) (l : Literal) → val σ (entryTerm (entryOf (times k l))) ≡ k *ℤ literalValue σ l
+unfolding val valOp prodZ entryTerm entryOf
+summand-value σ k l = times-one k (val σ (litTerm (keyOf l))) (literalValue σ l) (literal-value σ l)
 
-summands-value : (σ : Assignment) (xs : List Summand) → sumZ (vals σ (summandTerms xs)) ≡ sumValue σ xs
-unfolding val sumZ summandTerms sumValue
+summands-value : (σ : Assignment) (xs : List Summand) → sumZ (vals σ (entryTerms (entriesOf xs))) ≡ sumValue σ xs
+unfolding val sumZ entryTerms entriesOf sumValue
 summands-value σ [] = refl
 summands-value σ (times k l ∷ xs) = ap₂ _+ℤ_ (summand-value σ k l) (summands-value σ xs)
 
 -- the value of the term is that of the sum
-sum-value : (σ : Assignment) (xs : List Summand) → val σ (sumTerm xs) ≡ sumValue σ xs
-unfolding val valOp sumTerm sumValue
+sum-value : (σ : Assignment) (xs : List Summand) → val σ (sumTerm (entriesOf xs)) ≡ sumValue σ xs
+unfolding val valOp sumTerm entriesOf sumValue
 sum-value σ [] = refl
 sum-value σ (times k l ∷ []) = summand-value σ k l ∙ omega (int, link (‹ k *ℤ literalValue σ l › ⊕ lit 0))
 sum-value σ (x ∷ (y ∷ xs)) = summands-value σ (x ∷ (y ∷ xs))
@@ -53,32 +54,32 @@ turned-value σ (times k l ∷ xs) =
     ∙ omega (int, link (neg ‹ k › ⊗ ‹ v › ⊕ neg ‹ w ›), link (neg (‹ k › ⊗ ‹ v › ⊕ ‹ w ›)))
 
 -- ---- statements
-literal-arithmetic : (l : Literal) → T (isArithmetic (literalTerm l))
-unfolding isArithmetic arithmeticOp literalTerm
+literal-arithmetic : (l : Literal) → T (isArithmetic (litTerm (keyOf l)))
+unfolding isArithmetic arithmeticOp litTerm keyOf
 literal-arithmetic (plain x) = tt
 literal-arithmetic (negated x) = tt
 
-summand-arithmetic : (x : Summand) → T (isArithmetic (summandTerm x))
-unfolding isArithmetic arithmeticOp summandTerm
-summand-arithmetic (times k l) = and-mk (isArithmetic (literalTerm l)) true (literal-arithmetic l) tt
+summand-arithmetic : (x : Summand) → T (isArithmetic (entryTerm (entryOf x)))
+unfolding isArithmetic arithmeticOp entryTerm entryOf
+summand-arithmetic (times k l) = and-mk (isArithmetic (litTerm (keyOf l))) true (literal-arithmetic l) tt
 
-summands-arithmetic : (xs : List Summand) → T (areArithmetic (summandTerms xs))
-unfolding isArithmetic summandTerms
+summands-arithmetic : (xs : List Summand) → T (areArithmetic (entryTerms (entriesOf xs)))
+unfolding isArithmetic entryTerms entriesOf
 summands-arithmetic [] = tt
-summands-arithmetic (x ∷ xs) = and-mk (isArithmetic (summandTerm x)) _ (summand-arithmetic x) (summands-arithmetic xs)
+summands-arithmetic (x ∷ xs) = and-mk (isArithmetic (entryTerm (entryOf x))) _ (summand-arithmetic x) (summands-arithmetic xs)
 
-sum-arithmetic : (xs : List Summand) → T (isArithmetic (sumTerm xs))
-unfolding isArithmetic arithmeticOp sumTerm
+sum-arithmetic : (xs : List Summand) → T (isArithmetic (sumTerm (entriesOf xs)))
+unfolding isArithmetic arithmeticOp sumTerm entriesOf
 sum-arithmetic [] = tt
 sum-arithmetic (x ∷ []) = summand-arithmetic x
 sum-arithmetic (x ∷ (y ∷ xs)) = summands-arithmetic (x ∷ (y ∷ xs))
 
 inequality-statement : (xs : List Summand) (k : ℤ) → T (isStatement (inequality xs k))
-unfolding isStatement statementOp isArithmetic two inequality
-inequality-statement xs k = and-mk (isArithmetic (sumTerm xs)) true (sum-arithmetic xs) tt
+unfolding isStatement statementOp isArithmetic two inequality inequalityTerm
+inequality-statement xs k = and-mk (isArithmetic (sumTerm (entriesOf xs))) true (sum-arithmetic xs) tt
 
 inequality-truth : (σ : Assignment) (xs : List Summand) (k : ℤ) → truth σ (inequality xs k) ≡ leZ k (sumValue σ xs)
-unfolding truth truthOp pairOf val inequality
+unfolding truth truthOp pairOf val inequality inequalityTerm
 inequality-truth σ xs k = ap (leZ k) (sum-value σ xs)
 
 -- an inequality is satisfied where its constant is at most its sum

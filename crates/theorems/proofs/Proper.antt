@@ -11,7 +11,7 @@ use Rattle.calculus.specs.Bytes.{isBlank, inWord, classOf, opens, closes}
 use Rattle.calculus.specs.Commands.{enough, newId, premise, premises, premisesAt, argsAt, ruleAmong, ruleOf, onRule, ruleAt, assumeAt, stepAt, commandAt, Read, whole, refused, begin, halt, onLead, leadAt, onCommand, onRead, commands, readBehind, readFile}
 use Rattle.calculus.specs.Grammar.{Reads, got, off, then, sameMark, onMark, expect, onOption, onName, nameAt, closeAt, Head, leaf, stop, limited, onOperator, onTerm, headAt, onHead, onItem, term, items}
 use Rattle.calculus.specs.Terms.{Op, Term, num, var, app, sameName, Rule, Command, ruleText}
-use Rattle.calculus.specs.Words.{Res, ok, bad, bind, ensure, Mark, opening, closing, cl-word, assume-word, step-word, rule-word, premises-word, args-word, Word, mark, operator, numeral, name, wordOf, wordText, fixedOr, fixedWords, nameOf, isNameText, maxName, numeralFirst, numeralOf, magnitude, negative, digits, leadingZero, valueFrom, maxNumeral}
+use Rattle.calculus.specs.Words.{Res, ok, bad, bind, ensure, Mark, opening, closing, cl-word, assume-word, step-word, rule-word, premises-word, args-word, Word, mark, operator, numeral, name, wordOf, wordText, fixedOr, fixedWords, nameOf, isNameText, maxName, numeralFirst, numeralOf, magnitude, negative, digits, leadingZero, valueFrom, maxNumeral, negated-name, behindTilde, tildeFirst}
 use Rattle.calculus.specs.Tokens.{Token, ended, word, wrong, tokenAt, tokenFrom, tokenBehind, span, judged}
 use Rattle.calculus.specs.Limits.{maxNodes, maxDepth, maxText, maxCommands, known, allNodes}
 use Rattle.calculus.specs.Writing.{termWords}
@@ -60,9 +60,19 @@ unfolding NumberIn fixedOr nameOf
 fixed-in [] bs = ensure-in 4 5 (isNameText bs && leb (length bs) maxName) 5 (ok (name bs)) (omega arith) (omega arith) tt
 fixed-in (w ∷ ws) bs = cond-in 4 5 (sameName (wordText w) bs) (ok w) (fixedOr ws bs) tt (fixed-in ws bs)
 
+tilde-in : (w : Word) → NumberIn 4 5 (behindTilde w)
+unfolding NumberIn behindTilde
+tilde-in (mark m) = (omega arith, omega arith)
+tilde-in (operator o) = (omega arith, omega arith)
+tilde-in (numeral z) = (omega arith, omega arith)
+tilde-in (name x) = tt
+tilde-in (negated-name x) = (omega arith, omega arith)
+
 word-in : (bs : List ℕ) → NumberIn 4 5 (wordOf bs)
 unfolding NumberIn wordOf
-word-in bs = cond-in 4 5 (numeralFirst bs) _ _ (bind-in 4 5 (numeralOf bs) (λ z. ok (numeral z)) (numeral-in bs) (λ z. tt)) (fixed-in fixedWords bs)
+word-in bs =
+    cond-in 4 5 (numeralFirst bs) _ _ (bind-in 4 5 (numeralOf bs) (λ z. ok (numeral z)) (numeral-in bs) (λ z. tt))
+    (cond-in 4 5 (tildeFirst bs) _ _ (bind-in 4 5 (fixedOr fixedWords (drop 1 bs)) behindTilde (fixed-in fixedWords (drop 1 bs)) tilde-in) (fixed-in fixedWords bs))
 
 rule-in : (rs : List Rule) (bs : List ℕ) → NumberIn 2 8 (ruleAmong rs bs)
 unfolding NumberIn ruleAmong
@@ -138,6 +148,7 @@ module _ (s : List ℕ) where
   on-mark m k (word (operator o) p t) i f = refusal 6 p (omega arith) (omega arith) (i .0)
   on-mark m k (word (numeral z) p t) i f = refusal 6 p (omega arith) (omega arith) (i .0)
   on-mark m k (word (name x) p t) i f = refusal 6 p (omega arith) (omega arith) (i .0)
+  on-mark m k (word (negated-name x) p t) i f = refusal 5 p (omega arith) (omega arith) (i .0)
   on-mark m k (wrong e p) i f = i
 
   on-option : {A : Type 0} (m : Mark) (k : ℕ → Reads A) (r : Reads A) (w : Token) → TokenIn w → ((u : ℕ) → u ≤ length s → Proper (k u)) → Proper r → Proper (onOption m k r w)
@@ -147,6 +158,7 @@ module _ (s : List ℕ) where
   on-option m k r (word (operator o) p t) i f h = h
   on-option m k r (word (numeral z) p t) i f h = h
   on-option m k r (word (name x) p t) i f h = h
+  on-option m k r (word (negated-name x) p t) i f h = h
   on-option m k r (wrong e p) i f h = h
 
   on-name : {A : Type 0} (k : List ℕ → ℕ → ℕ → Reads A) (w : Token) → TokenIn w → ((x : List ℕ) (p u : ℕ) → p ≤ length s → u ≤ length s → Proper (k x p u)) → Proper (onName k w)
@@ -156,6 +168,7 @@ module _ (s : List ℕ) where
   on-name k (word (operator o) p t) i f = refusal 6 p (omega arith) (omega arith) (i .0)
   on-name k (word (numeral z) p t) i f = refusal 6 p (omega arith) (omega arith) (i .0)
   on-name k (word (name x) p t) i f = f x p t (i .0) (i .1)
+  on-name k (word (negated-name x) p t) i f = refusal 5 p (omega arith) (omega arith) (i .0)
   on-name k (wrong e p) i f = i
 
   expect-proper : {A : Type 0} (m : Mark) (at : ℕ) (k : ℕ → Reads A) → at ≤ length s → ((u : ℕ) → u ≤ length s → Proper (k u)) → Proper (expect m s at k)
@@ -179,6 +192,7 @@ module _ (s : List ℕ) where
   on-operator k n (word (operator o) p t) i f = f o p t refl (i .1)
   on-operator k n (word (numeral z) p t) i f = refusal 6 p (omega arith) (omega arith) (i .0)
   on-operator k n (word (name x) p t) i f = refusal 6 p (omega arith) (omega arith) (i .0)
+  on-operator k n (word (negated-name x) p t) i f = refusal 5 p (omega arith) (omega arith) (i .0)
   on-operator k n (wrong e p) i f = i
 
   limited-proper : (k : Op → ℕ → Reads Term) (l n p : ℕ) (h : Head) → p ≤ length s → Proper (onHead k n h) → Proper (onHead k n (limited l n p h))
@@ -200,6 +214,7 @@ module _ (s : List ℕ) where
   on-term k l n at (word (operator o) p t) i e f = refusal 6 p (omega arith) (omega arith) (i .0)
   on-term k l n at (word (numeral z) p t) i e f = limited-proper k l n p (leaf (num z) t) (i .0) tt
   on-term k l n at (word (name x) p t) i e f = limited-proper k l n p (leaf (var x) t) (i .0) tt
+  on-term k l n at (word (negated-name x) p t) i e f = refusal 5 p (omega arith) (omega arith) (i .0)
   on-term k l n at (wrong e p) i g f = i
 
   -- a term takes at least one byte
@@ -320,6 +335,7 @@ module _ (s : List ℕ) where
     on-lead k cs j at (word (operator o) p t) i e f = refusal 6 p (omega arith) (omega arith) (i .0)
     on-lead k cs j at (word (numeral z) p t) i e f = refusal 6 p (omega arith) (omega arith) (i .0)
     on-lead k cs j at (word (name x) p t) i e f = refusal 6 p (omega arith) (omega arith) (i .0)
+    on-lead k cs j at (word (negated-name x) p t) i e f = refusal 5 p (omega arith) (omega arith) (i .0)
     on-lead k cs j at (wrong e p) i g f = i
 
     on-read : (k : Command → ℕ → ℕ → Read) (r : Reads Command) → Proper r → ((c : Command) (t n : ℕ) → r ≡ got c t n → ProperRead s (k c t n)) → ProperRead s (onRead k r)

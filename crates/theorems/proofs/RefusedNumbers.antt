@@ -6,7 +6,7 @@ use mathlib.Core.List.{List, [], _∷_}
 use Prim.Native.Nat.{ℕ, zero, suc}
 use lib.Dec.{T, eqb, eqb→eq}
 use lib.IntN.{ℤ, pos, negsuc}
-use Rattle.calculus.specs.Answers.{among, inequalityNumbers, numbersOf}
+use Rattle.calculus.specs.Answers.{among, inequalityNumbers, numbersOf, polNumbers}
 use Rattle.calculus.specs.Equality.{sameTerm}
 use Rattle.calculus.specs.Links.{cpTransfer, nth, index, cpPart}
 use Rattle.calculus.specs.Marks.{applyRule, numberOf}
@@ -15,8 +15,9 @@ use Rattle.calculus.specs.Normalize.{Ctv, entryOf, constOf, termToCtv, collectO
 use Rattle.calculus.specs.Rules.{single, one, both, addCheck, cpAddition, byCheck, cpMultiplication, cpDivision, satCheck, cpSaturation, litProd, cpLiteral}
 use Rattle.calculus.specs.Entries.{Entry, Inequality}
 use Rattle.calculus.specs.Sums.{summand, summands, sumOr, pbSum, splitSummation, loneConstant, unwrapInequality}
-use Rattle.calculus.specs.Terms.{Op, Term, Terms, num, var, app, nil, cons, add, sub, mul, ge, gt, le, lt, eq, conj, Rule, addition, multiplication, division, saturation, literal, normalize, transfer, part}
+use Rattle.calculus.specs.Terms.{Op, Term, Terms, num, var, app, nil, cons, add, sub, mul, ge, gt, le, lt, eq, conj, Rule, addition, multiplication, division, saturation, literal, normalize, transfer, part, PolWord, line-word, plain-word, negated-word, plus-word, saturate-word, times-word, over-word}
 use Rattle.calculus.specs.Words.{Res, ok, bad, bind, ensure}
+use Rattle.calculus.specs.Pol.{lineInequality, axiomOf, added, multiplied, divided, saturated, stacked, push, onTop, onTwo, polStep, polSteps, lastEntry, polResult}
 use Rattle.calculus.proofs.Booleans.{and-l, and-r}
 
 -- a refusal's number is in the list
@@ -266,3 +267,71 @@ refused-number r ps xs c n e = subst (Answers (numbersOf r)) e (rule-in r ps xs 
 pub accepted-zero : (r : Rule) (ps : List (List Term)) (xs c : List Term) (p : Bool) → applyRule r ps xs c ≡ ok p → numberOf (applyRule r ps xs c) ≡ 0
 unfolding numberOf
 accepted-zero r ps xs c p e = rw e refl
+
+-- ---- pol lines
+stacked-in : (S : List Inequality) (q : Inequality) → Answers polNumbers (stacked S q)
+unfolding stacked polNumbers among Answers
+stacked-in S q = ensure-in polNumbers _ 53 _ tt tt
+
+push-in : (S : List Inequality) (r : Res Inequality) → Answers polNumbers r → Answers polNumbers (push S r)
+unfolding push polNumbers among
+push-in S r h = ensure-in polNumbers _ 52 _ tt (bind-in polNumbers r (stacked S) h (stacked-in S))
+
+top-in : (f : Inequality → Res Inequality) → ((q : Inequality) → Answers polNumbers (f q)) → (S : List Inequality) → Answers polNumbers (onTop f S)
+unfolding onTop polNumbers among Answers
+top-in f h [] = tt
+top-in f h (q ∷ S) = bind-in polNumbers (f q) (stacked S) (h q) (stacked-in S)
+
+two-in : (S : List Inequality) → Answers polNumbers (onTwo S)
+unfolding onTwo polNumbers among Answers
+two-in [] = tt
+two-in (r ∷ []) = tt
+two-in (r ∷ (l ∷ S)) = stacked-in S (added l r)
+
+multiplied-in : (m : ℤ) (q : Inequality) → Answers polNumbers (multiplied m q)
+unfolding multiplied polNumbers among Answers
+multiplied-in m q = ensure-in polNumbers _ 54 _ tt tt
+
+divided-in : (d : ℤ) (q : Inequality) → Answers polNumbers (divided d q)
+unfolding divided polNumbers among Answers
+divided-in d q = ensure-in polNumbers _ 54 _ tt (ensure-in polNumbers _ 54 _ tt tt)
+
+saturated-in : (q : Inequality) → Answers polNumbers (saturated q)
+unfolding saturated polNumbers among Answers
+saturated-in q = ensure-in polNumbers _ 54 _ tt (ensure-in polNumbers _ 54 _ tt tt)
+
+line-in : (c : List Term) → Answers polNumbers (lineInequality c)
+unfolding lineInequality polNumbers among Answers
+line-in [] = tt
+line-in (t ∷ []) = bind-in polNumbers _ _ (orBad-in polNumbers 54 _ tt) (λ q. ensure-in polNumbers _ 54 _ tt tt)
+line-in (t ∷ (u ∷ c)) = tt
+
+last-in : (S : List Inequality) → Answers polNumbers (lastEntry S)
+unfolding lastEntry polNumbers among Answers
+last-in [] = tt
+last-in (q ∷ []) = tt
+last-in (q ∷ (r ∷ S)) = tt
+
+axiom-in : (x : List ℕ) (b : Bool) → Answers polNumbers (ok (axiomOf x b))
+unfolding Answers
+axiom-in x b = tt
+
+pol-step-in : (at : List ℕ → List Term) (w : PolWord) (S : List Inequality) → Answers polNumbers (polStep at w S)
+unfolding polStep
+pol-step-in at (line-word d) S = push-in S (lineInequality (at d)) (line-in (at d))
+pol-step-in at (plain-word x) S = push-in S (ok (axiomOf x false)) (axiom-in x false)
+pol-step-in at (negated-word x) S = push-in S (ok (axiomOf x true)) (axiom-in x true)
+pol-step-in at plus-word S = two-in S
+pol-step-in at saturate-word S = top-in saturated saturated-in S
+pol-step-in at (times-word m) S = top-in (multiplied m) (multiplied-in m) S
+pol-step-in at (over-word d) S = top-in (divided d) (divided-in d) S
+
+pol-steps-in : (at : List ℕ → List Term) (ws : List PolWord) (S : List Inequality) → Answers polNumbers (polSteps at ws S)
+unfolding polSteps
+pol-steps-in at [] S = unfold Answers in tt
+pol-steps-in at (w ∷ ws) S = bind-in polNumbers (polStep at w S) (polSteps at ws) (pol-step-in at w S) (pol-steps-in at ws)
+
+-- a pol line that is refused has 52, 53 or 54
+pub refused-pol : (at : List ℕ → List Term) (ws : List PolWord) (n : ℕ) → polResult at ws ≡ bad n → T (among n polNumbers)
+unfolding polResult Answers
+refused-pol at ws n e = subst (Answers polNumbers) e (bind-in polNumbers (polSteps at ws []) lastEntry (pol-steps-in at ws []) last-in)

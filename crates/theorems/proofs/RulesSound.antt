@@ -86,7 +86,7 @@ add-point D C s t z k = go (yes-no (has k C))
     go (inr h) = sub-point D C k u h ∙ sym (get-missing k C h)
 
 -- every coefficient of a sum through f
-mapc : (ℤ → ℤ) → List Entry → List Entry
+unfoldable pub mapc : (ℤ → ℤ) → List Entry → List Entry
 mapc f E = recoef (λ e. f (e .coefficient)) E
 
 get-mapc : (f : ℤ → ℤ) → f (pos 0) ≡ pos 0 → (k : Lit) (E : List Entry) → get k (mapc f E) ≡ f (get k E)
@@ -97,7 +97,7 @@ get-mapc f z k E = get-recoef (λ e. f (e .coefficient)) k E ∙ go (has k E) (g
     go true h = refl
     go false h = sym (ap f (h tt) ∙ z)
 
-AllQ : (ℤ → Type 0) → List Entry → Type 0
+unfoldable pub AllQ : (ℤ → Type 0) → List Entry → Type 0
 AllQ Q [] = Unit {0}
 AllQ Q (e ∷ E) = Q (e .coefficient) × AllQ Q E
 
@@ -117,7 +117,7 @@ module _ (ν : Lit → Bool) (Q : ℤ → Type 0) (f : ℤ → ℤ) (S : SubAdd 
   q-total [] q = S .q-zero
   q-total (e ∷ E) q = S .q-add _ _ (q-scale (ν (e .lit)) (e .coefficient) (q .0)) (q-total E (q .1))
 
-  sub-total : (E : List Entry) → AllQ Q E → f (total ν E) ≤ℤ total ν (mapc f E)
+  pub sub-total : (E : List Entry) → AllQ Q E → f (total ν E) ≤ℤ total ν (mapc f E)
   unfolding AllQ total mapc recoef
   sub-total [] q = rw (S .f-zero) (≤ℤ-refl (pos 0))
   sub-total (e ∷ E) q =
@@ -167,7 +167,7 @@ sat-two : (σ : Assignment) (ps : List (List Term)) (p q : List Term) → AllSat
 unfolding AllSat
 sat-two σ ps p q s e = let w = subst (AllSat σ) e s in (w .0, w .1 .0)
 
-total-merge : (ν : Lit → Bool) (A B : List Entry) → total ν (addSums A B) ≡ total ν A +ℤ total ν B
+pub total-merge : (ν : Lit → Bool) (A B : List Entry) → total ν (addSums A B) ≡ total ν A +ℤ total ν B
 unfolding addSums total
 total-merge ν A [] = sym (+ℤ-idr (total ν A))
 total-merge ν A (e ∷ B) =
@@ -176,7 +176,7 @@ total-merge ν A (e ∷ B) =
     let b = total ν B in
     total-merge ν (put (e .lit) (e .coefficient) A) B ∙ rw total-put (omega (int, add-parts x a, add-parts (x +ℤ a) b, add-parts x b, add-parts a (x +ℤ b)))
 
-distinct-merge : (A B : List Entry) → Distinct A → Distinct (addSums A B)
+pub distinct-merge : (A B : List Entry) → Distinct A → Distinct (addSums A B)
 unfolding addSums
 distinct-merge A [] d = d
 distinct-merge A (e ∷ B) d = distinct-merge (put (e .lit) (e .coefficient) A) B (distinct-put (e .lit) (e .coefficient) A d)
@@ -237,7 +237,7 @@ by-names f A C e =
     let n : T (allNames (A .sum) && allNames (C .sum)) = subst T (sym (ok-inj e₃)) tt in
     (and-l (allNames (A .sum)) _ n, and-r (allNames (A .sum)) _ n)
 
-any-all : (E : List Entry) → AllQ Any E
+pub any-all : (E : List Entry) → AllQ Any E
 unfolding AllQ
 any-all [] = tt
 any-all (e ∷ E) = (tt, any-all E)
@@ -256,11 +256,11 @@ by-step σ f S a t A C ha ht e s =
     let (na, nc) = by-names f A C e in
     ineq-ok σ t C ht nc .of-true (by-arith σ f S A C (ineq-distinct a A ha) (ineq-distinct t C ht) e (ineq-ok σ a A ha na .true-of s))
 
-times-any : (m : ℤ) → T (leZ (pos 0) m) → SubAdd Any (timesZ m)
+pub times-any : (m : ℤ) → T (leZ (pos 0) m) → SubAdd Any (timesZ m)
 times-any (pos n) t = times-sub n
 times-any (negsuc n) t = absurd t
 
-div-any : (d : ℤ) → T (leZ (pos 0) d) → T (not (sameInteger d (pos 0))) → SubAdd Any (divUp d)
+pub div-any : (d : ℤ) → T (leZ (pos 0) d) → T (not (sameInteger d (pos 0))) → SubAdd Any (divUp d)
 div-any (pos zero) t n = absurd (sameInteger-no (pos 0) (pos 0) n refl)
 div-any (pos (suc d)) t n = div-sub d
 div-any (negsuc d) t n = absurd t
@@ -294,7 +294,7 @@ division-sound σ ps xs c e s =
     subst (Satisfies σ) (sym (single-ok c t h₆))
     (by-step σ (divUp d) (div-any d h₅ n₅) a t A C h₇ h₈ e₈ (sat-one σ ps p a s (one-ok 20 ps p h₁) (single-ok p a h₂)))
 
-nonneg-all : (E : List Entry) → T (all (λ e. leZ (pos 0) (e .coefficient)) E) → AllQ (λ z. pos 0 ≤ℤ z) E
+pub nonneg-all : (E : List Entry) → T (all (λ e. leZ (pos 0) (e .coefficient)) E) → AllQ (λ z. pos 0 ≤ℤ z) E
 unfolding all AllQ
 nonneg-all [] t = tt
 nonneg-all (e ∷ E) t = (leZ-yes (and-l (leZ (pos 0) (e .coefficient)) _ t), nonneg-all E (and-r (leZ (pos 0) (e .coefficient)) _ t))

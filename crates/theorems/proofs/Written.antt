@@ -11,7 +11,7 @@ use lib.Seq.{take-append-seam, drop-append-seam, drop-drop, drop-length}
 use Rattle.calculus.specs.Bytes.{isBlank, isDigit, isLetter, inName, inWord, classOf}
 use Rattle.calculus.specs.Commands.{whole, readFile}
 use Rattle.calculus.specs.Terms.{Op, add, sub, mul, ge, gt, le, lt, eq, conj, Term, Terms, num, var, app, nil, cons, listed, Rule, addition, multiplication, division, saturation, literal, normalize, transfer, part, ruleText, Command, assume, step}
-use Rattle.calculus.specs.Words.{ok, bind, Mark, opening, closing, cl-word, assume-word, step-word, rule-word, premises-word, args-word, Word, mark, operator, numeral, name, decimal, integerText, operatorText, markText, wordText, digits, maxNumeral, magnitude, negative, numeralOf, digitFirst, numeralFirst, nameBytes, isNameText, wordOf}
+use Rattle.calculus.specs.Words.{ok, bind, Mark, opening, closing, cl-word, assume-word, step-word, rule-word, premises-word, args-word, Word, mark, operator, numeral, name, decimal, integerText, operatorText, markText, wordText, digits, maxNumeral, magnitude, negative, numeralOf, digitFirst, numeralFirst, nameBytes, isNameText, wordOf, Res, negated-name, behindTilde, tildeFirst}
 use Rattle.calculus.specs.Tokens.{word, wrong, span, judged, tokenFrom, tokenBehind, tokenAt}
 use Rattle.calculus.specs.Limits.{maxText, Limits}
 use Rattle.calculus.specs.Writing.{termWords, termsWords, nameWords, premisesWords, argsWords, commandWords, wordsOf, Has, Spells}
@@ -19,7 +19,7 @@ use Rattle.calculus.proofs.Booleans.{or-elim, or-l, or-r, and-l, and-r, and-mk,
 use Rattle.theorems.proofs.ReadableFile.{complete}
 use Rattle.calculus.proofs.Computing.{computing}
 use Rattle.theorems.proofs.Decimal.{decimal-is, decimal-magnitude}
-use Rattle.theorems.proofs.Names.{word-name}
+use Rattle.theorems.proofs.Names.{word-name, word-fixed}
 use Rattle.theorems.proofs.Reading.{ok-bad}
 
 -- ---- texts of words
@@ -34,6 +34,7 @@ InRange (mark m) = Unit {0}
 InRange (operator o) = Unit {0}
 InRange (numeral z) = natAbs z ≤ maxNumeral
 InRange (name x) = wordOf x ≡ ok (name x)
+InRange (negated-name x) = wordOf x ≡ ok (name x)
 
 -- of every word of a list
 unfoldable pub AllInRange : List Word → Type 0
@@ -133,6 +134,11 @@ operator-word conj = (refl, tt)
 name-word : (x : List ℕ) → wordOf x ≡ ok (name x) → IsWord x (name x)
 name-word x e = (e, name-words x (word-name x x e))
 
+-- so is a name behind `~`
+negated-word-of : (x : List ℕ) → wordOf x ≡ ok (name x) → IsWord (126 ∷ x) (negated-name x)
+unfolding wordOf numeralFirst tildeFirst isDigit bind behindTilde wordBytes inWord classOf isBlank isLetter
+negated-word-of x e = (ap (λ (r : Res Word). bind r behindTilde) (word-fixed x x e), name-words x (word-name x x e))
+
 -- ---- the token that a word is written as
 -- a word reaches to its last byte
 span-word : (w rest : List ℕ) → T (wordBytes w) → span inWord rest ≡ 0 → span inWord (w ++ rest) ≡ length w
@@ -180,6 +186,7 @@ from-text (mark m) p rest h e = from-mark m p rest e
 from-text (operator o) p rest h e = from-word p (operatorText o) rest (operator o) (operator-word o) e
 from-text (numeral z) p rest h e = from-word p (integerText z) rest (numeral z) (integer-word z h) e
 from-text (name x) p rest h e = from-word p x rest (name x) (name-word x h) e
+from-text (negated-name x) p rest h e = from-word p (126 ∷ x) rest (negated-name x) (negated-word-of x h) e
 
 -- no token begins with a blank
 no-blank : (p : ℕ) (bs : List ℕ) (w : Word) (q t : ℕ) → tokenFrom p bs ≡ word w q t → span isBlank bs ≡ 0

@@ -15,7 +15,7 @@ slice-aggregate-answer-all-3 : tie.Need-slice-aggregate-answer-all-3
 slice-aggregate-answer-all-3 c = search needs
 
 answer-all-requires : tie.Need-answer-all-requires
-answer-all-requires c κs = ((c .before .before .before .before .before .before .before .before .before .pre) .0, ((c .before .before .before .before .before .before .before .before .before .pre) .1, rooms-of (pos 0) 0 0))
+answer-all-requires c κs = ((c .before .before .before .before .before .before .before .before .before .pre) .0 .0, ((c .before .before .before .before .before .before .before .before .before .pre) .1, rooms-of _ (pos 0) 0 0 ((c .before .before .before .before .before .before .before .before .before .pre) .0 .1)))
 
 same-length : tie.Need-same-length
 same-length c = search needs

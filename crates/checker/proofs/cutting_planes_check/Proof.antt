@@ -14,6 +14,15 @@ returns c = let r = length ((c .before .before .before .before .args) .report .n
 returns-2 : tie.Need-returns-2
 returns-2 c = let r = length ((c .before .before .before .before .before .args) .report .now) in let n = length ((c .before .before .before .before .before .args) .nodes .now) in let e = written-table r n ((c .before .before .before .before .before .args) .text .now) (omega arith) in (sym (ap length e), (sym e, (refl, (λ h. refl, sound-report r n ((c .before .before .before .before .before .args) .text .now) (sym e)))))
 
+sub-report-text : tie.Need-sub-report-text
+sub-report-text c = search needs
+
+part-report-text-start : tie.Need-part-report-text-start
+part-report-text-start c = search needs
+
+part-report-text-end : tie.Need-part-report-text-end
+part-report-text-end c = search needs
+
 slice-aggregate-report-text : tie.Need-slice-aggregate-report-text
 slice-aggregate-report-text c = search needs
 
@@ -35,6 +44,9 @@ cutting-planes-check-spec =
     (tie.spec
     returns
     returns-2
+    sub-report-text
+    part-report-text-start
+    part-report-text-end
     slice-aggregate-report-text
     report-text-requires
     same-length

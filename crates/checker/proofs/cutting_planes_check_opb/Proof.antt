@@ -14,6 +14,15 @@ returns c = let r = length ((c .before .before .before .before .before .args) .r
 returns-2 : tie.Need-returns-2
 returns-2 c = let r = length ((c .before .before .before .before .before .before .args) .report .now) in let n = length ((c .before .before .before .before .before .before .args) .nodes .now) in let e = both-no-table r n ((c .before .before .before .before .before .before .args) .opb .now) ((c .before .before .before .before .before .before .args) .text .now) (omega arith) in (sym (ap length e), (sym e, (refl, (λ h. refl, sound-both-report r n ((c .before .before .before .before .before .before .args) .opb .now) ((c .before .before .before .before .before .before .args) .text .now) (sym e)))))
 
+sub-report-both : tie.Need-sub-report-both
+sub-report-both c = search needs
+
+part-report-both-start : tie.Need-part-report-both-start
+part-report-both-start c = search needs
+
+part-report-both-end : tie.Need-part-report-both-end
+part-report-both-end c = search needs
+
 slice-aggregate-report-both : tie.Need-slice-aggregate-report-both
 slice-aggregate-report-both c = search needs
 
@@ -35,6 +44,9 @@ cutting-planes-check-opb-spec =
     (tie.spec
     returns
     returns-2
+    sub-report-both
+    part-report-both-start
+    part-report-both-end
     slice-aggregate-report-both
     report-both-requires
     same-length

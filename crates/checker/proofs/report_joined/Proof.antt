@@ -1,4 +1,5 @@
 -- What the reader of both texts answers decides: a file's report, or a refusal's line.
+use native.Mathlib.Omega.{arith}
 use borrow.Author.Needs.{needs}
 use Rattle.checker.proofs.Distinct.{file-both}
 use Rattle.checker.proofs.Reporting.{both-report, both-refusal, both-never-small}
@@ -12,7 +13,7 @@ enum-known-n : tie.Need-enum-known-n
 enum-known-n c = search needs
 
 report-file-requires : tie.Need-report-file-requires
-report-file-requires c κs = (file-both ((c .before .before .before .before .before .before .before .before .before .before .before .before .before .before .before .before .before .before .before .args) .opb .now) ((c .before .before .before .before .before .before .before .before .before .before .before .before .before .before .before .before .before .before .before .args) .text .now) ((c .before .before .before .before .before .before .before .before .before .before .before .before .before .before .before .before .before .before .before .args) .string .now) ((c .before .before .before .before .before .before .before .before .before .before .read-both) .last .1 .1 .1 .0) ((c .before .before .before .before .before .before .before .before .before .before .read-both) .last .1 .1 .1 .1 .0) ((c .before .before .before .before .before .before .before .before .before .before .read-both) .result) _ _ _ ((c .before .before .before .before .before .before .before .before .before .before .read-both) .ensures) ((c .before .before .before .before .n) .given .1), (c .before .before .before .before .before .before .before .before .before .before .before .before .before .before .before .before .before .before .before .pre) .0)
+report-file-requires c κs = (file-both ((c .before .before .before .before .before .before .before .before .before .before .before .before .before .before .before .before .before .before .before .args) .opb .now) ((c .before .before .before .before .before .before .before .before .before .before .before .before .before .before .before .before .before .before .before .args) .text .now) ((c .before .before .before .before .before .before .before .before .before .before .before .before .before .before .before .before .before .before .before .args) .string .now) ((c .before .before .before .before .before .before .before .before .before .before .read-both) .last .1 .1 .1 .0) ((c .before .before .before .before .before .before .before .before .before .before .read-both) .last .1 .1 .1 .1 .0) ((c .before .before .before .before .before .before .before .before .before .before .read-both) .result) _ _ _ ((c .before .before .before .before .before .before .before .before .before .before .read-both) .ensures) ((c .before .before .before .before .n) .given .1), (c .before .before .before .before .before .before .before .before .before .before .before .before .before .before .before .before .before .before .before .pre) .0, omega (arith, (c .before .before .before .before .before .before .before .before .before .before .read-both) .kept .1 .1 .1 .0, (c .before .before .before .before .before .before .before .before .before .before .before .before .before .before .before .before .before .before .before .pre) .1 .room))
 
 enum-known-number : tie.Need-enum-known-number
 enum-known-number c = search needs

@@ -1,4 +1,5 @@
 -- What the reader answers decides: a file's report, a refusal's line; and the tables are not too small.
+use native.Mathlib.Omega.{arith}
 use borrow.Author.Needs.{needs}
 use Rattle.checker.proofs.Distinct.{file-of}
 use Rattle.checker.proofs.Reporting.{report-all, report-refused, report-small}
@@ -12,7 +13,7 @@ enum-known-n : tie.Need-enum-known-n
 enum-known-n c = search needs
 
 report-file-requires : tie.Need-report-file-requires
-report-file-requires c κs = (file-of ((c .before .before .before .before .before .before .before .before .before .before .before .before .before .before .before .before .before .args) .text .now) ((c .before .before .before .before .before .before .before .before .before .before .before .before .before .before .before .before .before .args) .nodes .now) ((c .before .before .before .before .before .before .before .before .before .before .read-file) .last .1 .0) ((c .before .before .before .before .before .before .before .before .before .before .before .before .before .before .before .before .before .args) .commands .now) ((c .before .before .before .before .before .before .before .before .before .before .read-file) .last .1 .1 .0) ((c .before .before .before .before .before .before .before .before .before .before .read-file) .result) _ _ _ ((c .before .before .before .before .before .before .before .before .before .before .read-file) .ensures) ((c .before .before .before .before .n) .given .1), (c .before .before .before .before .before .before .before .before .before .before .before .before .before .before .before .before .before .pre) .0)
+report-file-requires c κs = (file-of ((c .before .before .before .before .before .before .before .before .before .before .before .before .before .before .before .before .before .args) .text .now) ((c .before .before .before .before .before .before .before .before .before .before .before .before .before .before .before .before .before .args) .nodes .now) ((c .before .before .before .before .before .before .before .before .before .before .read-file) .last .1 .0) ((c .before .before .before .before .before .before .before .before .before .before .before .before .before .before .before .before .before .args) .commands .now) ((c .before .before .before .before .before .before .before .before .before .before .read-file) .last .1 .1 .0) ((c .before .before .before .before .before .before .before .before .before .before .read-file) .result) _ _ _ ((c .before .before .before .before .before .before .before .before .before .before .read-file) .ensures) ((c .before .before .before .before .n) .given .1), (c .before .before .before .before .before .before .before .before .before .before .before .before .before .before .before .before .before .pre) .0, omega (arith, (c .before .before .before .before .before .before .before .before .before .before .read-file) .kept .1 .0, (c .before .before .before .before .before .before .before .before .before .before .before .before .before .before .before .before .before .pre) .1))
 
 enum-known-number : tie.Need-enum-known-number
 enum-known-number c = search needs

@@ -1,12 +1,16 @@
 -- `nodes::put_two` meets its contract: two words of the copy.
-use Prim.Native.Nat.{_+_}
+use mathlib.Core.Path.{ap, _∙_}
+use Prim.Native.Nat.{ℕ, _+_}
 use native.Mathlib.Omega.{arith}
 use borrow.Author.Needs.{needs}
-use lib.ListN.{length-set}
-use Rattle.nodes.specs.Nodes.{childBase}
+use lib.ListN.{drop, length-set}
+use lib.Seq.{paste}
 use Rattle.nodes.proofs.Copying.{copy-two}
 use Rattle.nodes.proofs.put_two.Statement.{statement}
 use Rattle.nodes.proofs.put_two.Tie as tie
+
+child-base-requires : tie.Need-child-base-requires
+child-base-requires c κs = search needs
 
 add-k : tie.Need-add-k
 add-k c = search needs
@@ -45,18 +49,19 @@ mul-nodes-2 : tie.Need-mul-nodes-2
 mul-nodes-2 c = search needs
 
 slice-write-nodes-2 : tie.Need-slice-write-nodes-2
-slice-write-nodes-2 c = rw (length-set ((c .before .before .before .before .before .before .args) .nodes .now) (childBase + (c .before .before .before .before .before .before .args) .c) _) (omega (arith, (c .before .before .before .before .before .before .pre)))
+slice-write-nodes-2 c = simp length-set (omega (arith, (c .before .before .before .before .child-base) .ensures, (c .before .before .before .before .before .before .before .before .pre)))
 
 same-length : tie.Need-same-length
 same-length c = search needs
 
 returns : tie.Need-returns
-returns c = copy-two ((c .before .before .before .before .before .before .args) .nodes .now) ((c .before .before .before .before .before .before .args) .pending .now) ((c .before .before .before .before .before .before .args) .from) (childBase + (c .before .before .before .before .before .before .args) .c) ((c .before .before .before .before .before .before .pre) .1) (omega (arith, (c .before .before .before .before .before .before .pre))) _ _ ((c .before .before .word) .ensures) ((c .word2) .ensures)
+returns c = copy-two ((c .before .before .before .before .before .before .before .before .args) .nodes .now) ((c .before .before .before .before .before .before .before .before .args) .pending .now) ((c .before .before .before .before .before .before .before .before .args) .from) ((c .before .before .before .before .child-base) .result + (c .before .before .before .before .before .before .before .before .args) .c) ((c .before .before .before .before .before .before .before .before .pre) .0) (omega (arith, (c .before .before .before .before .child-base) .ensures, (c .before .before .before .before .before .before .before .before .pre))) _ _ ((c .before .before .word) .ensures) ((c .word2) .ensures) ∙ ap (λ (b : ℕ). paste ((c .before .before .before .before .before .before .before .before .args) .nodes .now) (b + (c .before .before .before .before .before .before .before .before .args) .c) (drop ((c .before .before .before .before .before .before .before .before .args) .from) ((c .before .before .before .before .before .before .before .before .args) .pending .now)) 2) ((c .before .before .before .before .child-base) .ensures)
 
 pub put-two-spec : {M : Type 1} → statement M
 put-two-spec =
     tie.close
     (tie.spec
+    child-base-requires
     add-k
     mul-word
     shared-slice-read-word

@@ -2,10 +2,9 @@
 use mathlib.Core.Path.{_∙_}
 use Prim.Native.Nat.{_+_}
 use native.Mathlib.Omega.{arith}
-use borrow.Author.Needs.{needs}
 use lib.ListN.{set, length-set}
-use Rattle.nodes.specs.Nodes.{childBase}
 use Rattle.opb_terms.proofs.Putting.{binary-is}
+use borrow.Author.Needs.{needs}
 use Rattle.opb_terms.proofs.put_binary.Statement.{statement}
 use Rattle.opb_terms.proofs.put_binary.Tie as tie
 
@@ -37,13 +36,13 @@ cast-put-node : tie.Need-cast-put-node
 cast-put-node c = search needs
 
 put-node-requires : tie.Need-put-node-requires
-put-node-requires c κs = (rw (length-set, length-set) ((c .before .before .pre) .0), (c .before .before .pre) .1)
+put-node-requires c κs = rw (length-set, length-set) ((c .before .before .pre) .1)
 
 same-length : tie.Need-same-length
-same-length c = (c .before .before .put-node) .kept .0 ∙ length-set (set ((c .before .before .before .before .before .args) .nodes .now) (childBase + (c .before .before .before .before .before .args) .d) ((c .before .before .before .before .before .args) .a)) (childBase + (c .before .before .before .before .before .args) .d + 1) ((c .before .before .before .before .before .args) .b) ∙ length-set ((c .before .before .before .before .before .args) .nodes .now) (childBase + (c .before .before .before .before .before .args) .d) ((c .before .before .before .before .before .args) .a)
+same-length c = (c .before .before .put-node) .kept .0 ∙ length-set (set ((c .before .before .before .before .before .args) .nodes .now) ((c .before .before .before .before .before .args) .base + (c .before .before .before .before .before .args) .d) ((c .before .before .before .before .before .args) .a)) ((c .before .before .before .before .before .args) .base + (c .before .before .before .before .before .args) .d + 1) ((c .before .before .before .before .before .args) .b) ∙ length-set ((c .before .before .before .before .before .args) .nodes .now) ((c .before .before .before .before .before .args) .base + (c .before .before .before .before .before .args) .d) ((c .before .before .before .before .before .args) .a)
 
 returns : tie.Need-returns
-returns c = binary-is ((c .before .before .before .before .before .args) .nodes .now) ((c .before .before .before .before .before .args) .m) ((c .before .before .before .before .before .args) .d) ((c .before .before .before .before .before .args) .operator) ((c .before .before .before .before .before .args) .a) ((c .before .before .before .before .before .args) .b) (omega (arith, (c .before .before .before .before .before .pre))) ((c .before .before .put-node) .ensures)
+returns c = binary-is ((c .before .before .before .before .before .args) .nodes .now) ((c .before .before .before .before .before .args) .m) ((c .before .before .before .before .before .args) .d) ((c .before .before .before .before .before .args) .operator) ((c .before .before .before .before .before .args) .a) ((c .before .before .before .before .before .args) .b) (omega (arith, (c .before .before .before .before .before .pre))) (rw ((c .before .before .before .before .before .pre) .5) at ((c .before .before .put-node) .ensures))
 
 pub put-binary-spec : {M : Type 1} → statement M
 put-binary-spec =

@@ -20,33 +20,39 @@ sub-d-2 c = omega (arith, inequality-room ((c .before .before .before .before .b
 sign-requires : tie.Need-sign-requires
 sign-requires c κs = (c .before .before .before .before .before .before .before .before .before .before .before .before .before .before .before .pre) .1
 
+child-base-requires : tie.Need-child-base-requires
+child-base-requires c κs = search needs
+
 put-numeral-requires : tie.Need-put-numeral-requires
-put-numeral-requires c κs = ((c .before .before .before .before .before .before .before .before .put-sum) .ensures .made .grown .table .room, omega (arith, inequality-room ((c .before .before .before .before .before .before .before .before .before .before .before .before .before .before .before .before .before .pre) .0) ((c .before .before .before .before .before .before .before .before .put-sum) .ensures)))
+put-numeral-requires c κs = omega (arith, inequality-room ((c .before .before .before .before .before .before .before .before .before .before .before .before .before .before .before .before .before .before .before .pre) .0) ((c .before .before .before .before .before .before .before .before .before .before .put-sum) .ensures))
 
 add-put-binary : tie.Need-add-put-binary
-add-put-binary c = omega (arith, inequality-room ((c .before .before .before .before .before .before .before .before .before .before .before .before .before .before .before .before .before .before .before .before .before .pre) .0) ((c .before .before .before .before .before .before .before .before .before .before .before .before .put-sum) .ensures))
+add-put-binary c = omega (arith, inequality-room ((c .before .before .before .before .before .before .before .before .before .before .before .before .before .before .before .before .before .before .before .before .before .before .before .pre) .0) ((c .before .before .before .before .before .before .before .before .before .before .before .before .before .before .put-sum) .ensures))
 
 sub-put-binary : tie.Need-sub-put-binary
-sub-put-binary c = omega (arith, inequality-room ((c .before .before .before .before .before .before .before .before .before .before .before .before .before .before .before .before .before .before .before .before .before .pre) .0) ((c .before .before .before .before .before .before .before .before .before .before .before .before .put-sum) .ensures))
+sub-put-binary c = omega (arith, inequality-room ((c .before .before .before .before .before .before .before .before .before .before .before .before .before .before .before .before .before .before .before .before .before .before .before .pre) .0) ((c .before .before .before .before .before .before .before .before .before .before .before .before .before .before .put-sum) .ensures))
 
 put-binary-requires : tie.Need-put-binary-requires
 put-binary-requires c κs =
-    let room = inequality-room ((c .before .before .before .before .before .before .before .before .before .before .before .before .before .before .before .before .before .before .before .before .before .pre) .0) ((c .before .before .before .before .before .before .before .before .before .before .before .before .put-sum) .ensures) in
-    (omega (arith, (c .before .before .before .before .before .before .before .before .before .before .before .before .put-sum) .ensures .made .grown .table .room, (c .before .before .before .put-numeral) .kept .0), omega (arith, room), omega (arith, room, (c .before .before .before .before .before .before .before .before .before .before .before .before .before .before .before .before .before .before .before .before .before .pre) .0 .ready .table .used), omega (arith, room), omega (arith, room))
+    let room = inequality-room ((c .before .before .before .before .before .before .before .before .before .before .before .before .before .before .before .before .before .before .before .before .before .before .before .pre) .0) ((c .before .before .before .before .before .before .before .before .before .before .before .before .before .before .put-sum) .ensures) in
+    let long = (c .before .before .before .put-numeral) .kept .0 in
+    (omega (arith, long, (c .before .before .before .before .before .before .before .before .before .before .before .before .before .before .put-sum) .ensures .made .grown .table .wide), omega (arith, room, long), omega (arith, room, long, (c .before .before .before .before .before .before .before .before .before .before .before .before .before .before .before .before .before .before .before .before .before .before .before .pre) .0 .ready .table .used), omega (arith, room, long), omega (arith, room, long), omega (arith, (c .before .before .before .before .before .child-base) .ensures, long))
 
 add-put-child : tie.Need-add-put-child
-add-put-child c = omega (arith, inequality-room ((c .before .before .before .before .before .before .before .before .before .before .before .before .before .before .before .before .before .before .before .before .before .before .before .before .before .pre) .0) ((c .before .before .before .before .before .before .before .before .before .before .before .before .before .before .before .before .put-sum) .ensures), (c .before .before .before .before .before .before .before .before .before .before .before .before .before .before .before .before .before .before .before .before .before .before .before .before .before .pre) .0 .ready .table .used)
+add-put-child c = omega (arith, inequality-room ((c .before .before .before .before .before .before .before .before .before .before .before .before .before .before .before .before .before .before .before .before .before .before .before .before .before .before .before .pre) .0) ((c .before .before .before .before .before .before .before .before .before .before .before .before .before .before .before .before .before .before .put-sum) .ensures), (c .before .before .before .before .before .before .before .before .before .before .before .before .before .before .before .before .before .before .before .before .before .before .before .before .before .before .before .pre) .0 .ready .table .used)
 
 add-put-child-2 : tie.Need-add-put-child-2
-add-put-child-2 c = omega (arith, inequality-room ((c .before .before .before .before .before .before .before .before .before .before .before .before .before .before .before .before .before .before .before .before .before .before .before .before .before .pre) .0) ((c .before .before .before .before .before .before .before .before .before .before .before .before .before .before .before .before .put-sum) .ensures))
+add-put-child-2 c = omega (arith, inequality-room ((c .before .before .before .before .before .before .before .before .before .before .before .before .before .before .before .before .before .before .before .before .before .before .before .before .before .before .before .pre) .0) ((c .before .before .before .before .before .before .before .before .before .before .before .before .before .before .before .before .before .before .put-sum) .ensures))
 
 put-child-requires : tie.Need-put-child-requires
 put-child-requires c κs =
-    let room = inequality-room ((c .before .before .before .before .before .before .before .before .before .before .before .before .before .before .before .before .before .before .before .before .before .before .before .before .before .pre) .0) ((c .before .before .before .before .before .before .before .before .before .before .before .before .before .before .before .before .put-sum) .ensures) in
-    (omega (arith, (c .before .before .before .before .before .before .before .before .before .before .before .before .before .before .before .before .put-sum) .ensures .made .grown .table .room, (c .before .before .before .before .before .before .before .put-numeral) .kept .0, (c .before .before .before .put-binary) .kept .0), omega (arith, room, (c .before .before .before .before .before .before .before .before .before .before .before .before .before .before .before .before .before .before .before .before .before .before .before .before .before .pre) .0 .ready .table .used), omega (arith, room))
+    let room = inequality-room ((c .before .before .before .before .before .before .before .before .before .before .before .before .before .before .before .before .before .before .before .before .before .before .before .before .before .before .before .pre) .0) ((c .before .before .before .before .before .before .before .before .before .before .before .before .before .before .before .before .before .before .put-sum) .ensures) in
+    let long = (c .before .before .before .before .before .before .before .put-numeral) .kept .0 in
+    let same = (c .before .before .before .put-binary) .kept .0 in
+    (omega (arith, long, same, (c .before .before .before .before .before .before .before .before .before .before .before .before .before .before .before .before .before .before .put-sum) .ensures .made .grown .table .wide), omega (arith, room, long, same, (c .before .before .before .before .before .before .before .before .before .before .before .before .before .before .before .before .before .before .before .before .before .before .before .before .before .before .before .pre) .0 .ready .table .used), omega (arith, room, long, same), omega (arith, (c .before .before .before .before .before .before .before .before .before .child-base) .ensures, long, same))
 
 add-result : tie.Need-add-result
-add-result c = omega (arith, inequality-room ((c .before .before .before .before .before .before .before .before .before .before .before .before .before .before .before .before .before .before .before .before .before .before .before .before .before .before .before .before .pre) .0) ((c .before .before .before .before .before .before .before .before .before .before .before .before .before .before .before .before .before .before .before .put-sum) .ensures))
+add-result c = omega (arith, inequality-room ((c .before .before .before .before .before .before .before .before .before .before .before .before .before .before .before .before .before .before .before .before .before .before .before .before .before .before .before .before .before .before .pre) .0) ((c .before .before .before .before .before .before .before .before .before .before .before .before .before .before .before .before .before .before .before .before .before .put-sum) .ensures))
 
 same-length : tie.Need-same-length
 same-length c = search needs
@@ -58,7 +64,7 @@ same-length-3 : tie.Need-same-length-3
 same-length-3 c = search needs
 
 returns : tie.Need-returns
-returns c = inequality-put ((c .before .before .before .before .before .before .before .before .before .before .before .before .before .before .before .before .before .before .before .before .before .before .before .before .before .before .before .before .pre) .0) ((c .before .before .before .before .before .before .before .before .before .before .before .before .before .before .before .before .before .before .before .put-sum) .ensures) ((c .before .before .before .before .before .before .before .before .before .before .before .before .sign) .ensures) ((c .before .before .before .before .before .before .before .before .before .before .put-numeral) .ensures) ((c .before .before .before .before .before .before .put-binary) .ensures) ((c .before .before .put-child) .ensures)
+returns c = inequality-put ((c .before .before .before .before .before .before .before .before .before .before .before .before .before .before .before .before .before .before .before .before .before .before .before .before .before .before .before .before .before .before .pre) .0) ((c .before .before .before .before .before .before .before .before .before .before .before .before .before .before .before .before .before .before .before .before .before .put-sum) .ensures) ((c .before .before .before .before .before .before .before .before .before .before .before .before .before .before .sign) .ensures) ((c .before .before .before .before .before .before .before .before .before .before .put-numeral) .ensures) ((c .before .before .before .before .before .before .put-binary) .ensures) ((c .before .before .put-child) .ensures)
 
 pub put-inequality-spec : {M : Type 1} → statement M
 put-inequality-spec =
@@ -69,6 +75,7 @@ put-inequality-spec =
     add-d
     sub-d-2
     sign-requires
+    child-base-requires
     put-numeral-requires
     add-put-binary
     sub-put-binary

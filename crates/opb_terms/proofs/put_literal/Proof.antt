@@ -1,12 +1,12 @@
 -- `opb_terms::put_literal` owes a literal's term as the last node. Assumes nothing.
 use native.Mathlib.Omega.{arith}
 use borrow.Author.Needs.{needs}
-use Rattle.opb_terms.proofs.Products.{literal-room, negated-asked, name-put, negated-put, plain-room, plain-asked, plain-put}
+use Rattle.opb_terms.proofs.Products.{literal-room, negated-asked, negated-binary, negated-put, plain-room, plain-asked, plain-put}
 use Rattle.opb_terms.proofs.put_literal.Statement.{statement}
 use Rattle.opb_terms.proofs.put_literal.Tie as tie
 
 put-numeral-requires : tie.Need-put-numeral-requires
-put-numeral-requires c κs = ((c .before .before .before .before .before .pre) .0 .table .room, omega (arith, literal-room ((c .before .before .before .before .before .pre) .0) ((c .before .if1) .taken)))
+put-numeral-requires c κs = omega (arith, literal-room ((c .before .before .before .before .before .pre) .0) ((c .before .if1) .taken))
 
 add-put-variable : tie.Need-add-put-variable
 add-put-variable c = omega (arith, literal-room ((c .before .before .before .before .before .before .before .before .before .before .pre) .0) ((c .before .before .before .before .before .before .if1) .taken))
@@ -21,7 +21,7 @@ add-put-binary-2 : tie.Need-add-put-binary-2
 add-put-binary-2 c = omega (arith, literal-room ((c .before .before .before .before .before .before .before .before .before .before .before .before .before .before .before .before .pre) .0) ((c .before .before .before .before .before .before .before .before .before .before .before .before .if1) .taken))
 
 put-binary-requires : tie.Need-put-binary-requires
-put-binary-requires c κs = (name-put ((c .before .before .before .before .before .before .before .before .before .before .before .before .before .before .before .before .pre) .0) ((c .before .before .before .before .before .before .before .before .before .before .before .before .if1) .taken) ((c .before .before .before .before .before .before .before .before .before .before .put-numeral) .ensures) ((c .before .before .before .before .before .put-variable) .ensures) .grown .table .room, omega (arith, literal-room ((c .before .before .before .before .before .before .before .before .before .before .before .before .before .before .before .before .pre) .0) ((c .before .before .before .before .before .before .before .before .before .before .before .before .if1) .taken)), omega (arith, literal-room ((c .before .before .before .before .before .before .before .before .before .before .before .before .before .before .before .before .pre) .0) ((c .before .before .before .before .before .before .before .before .before .before .before .before .if1) .taken), (c .before .before .before .before .before .before .before .before .before .before .before .before .before .before .before .before .pre) .0 .table .used), omega (arith, literal-room ((c .before .before .before .before .before .before .before .before .before .before .before .before .before .before .before .before .pre) .0) ((c .before .before .before .before .before .before .before .before .before .before .before .before .if1) .taken)), omega (arith, literal-room ((c .before .before .before .before .before .before .before .before .before .before .before .before .before .before .before .before .pre) .0) ((c .before .before .before .before .before .before .before .before .before .before .before .before .if1) .taken)))
+put-binary-requires c κs = negated-binary ((c .before .before .before .before .before .before .before .before .before .before .before .before .before .before .before .before .pre) .0) ((c .before .before .before .before .before .before .before .before .before .before .before .before .if1) .taken) ((c .before .before .before .before .before .before .before .before .before .before .put-numeral) .ensures) ((c .before .before .before .before .before .put-variable) .ensures) ((c .before .before .before .before .before .before .before .before .before .before .before .before .before .before .before .before .pre) .2)
 
 add-result : tie.Need-add-result
 add-result c = omega (arith, literal-room ((c .before .before .before .before .before .before .before .before .before .before .before .before .before .before .before .before .before .before .before .pre) .0) ((c .before .before .before .before .before .before .before .before .before .before .before .before .before .before .before .if1) .taken))

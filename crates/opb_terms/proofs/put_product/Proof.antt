@@ -59,7 +59,7 @@ wide-requires-2 : tie.Need-wide-requires-2
 wide-requires-2 c κs = search needs
 
 put-summand-requires : tie.Need-put-summand-requires
-put-summand-requires c κs = ((c .before .before .before .before .before .before .before .before .before .before .before .before .before .before .pre) .3, (c .before .before .before .before .before .before .before .sign) .ensures .numeral, product-name ((c .before .before .before .before .before .before .before .before .before .before .before .before .before .before .pre) .2) ((c .before .before .before .before .wide) .ensures) ((c .before .before .wide2) .ensures))
+put-summand-requires c κs = ((c .before .before .before .before .before .before .before .before .before .before .before .before .before .before .pre) .3, (c .before .before .before .before .before .before .before .sign) .ensures .numeral, product-name ((c .before .before .before .before .before .before .before .before .before .before .before .before .before .before .pre) .2) ((c .before .before .before .before .wide) .ensures) ((c .before .before .wide2) .ensures), (c .before .before .before .before .before .before .before .before .before .before .before .before .before .before .pre) .4)
 
 same-length : tie.Need-same-length
 same-length c = search needs

@@ -6,7 +6,7 @@ use Rattle.opb_terms.proofs.put_sum.Statement.{statement}
 use Rattle.opb_terms.proofs.put_sum.Tie as tie
 
 put-numeral-requires : tie.Need-put-numeral-requires
-put-numeral-requires c κs = ((c .before .before .before .before .before .before .before .pre) .ready .table .room, sum-first (c .before .before .before .before .before .before .before .pre))
+put-numeral-requires c κs = sum-first (c .before .before .before .before .before .before .before .pre)
 
 add-result : tie.Need-add-result
 add-result c = omega (arith, sum-first (c .before .before .before .before .before .before .before .before .before .before .pre))
@@ -42,7 +42,7 @@ sub-d-2 : tie.Need-sub-d-2
 sub-d-2 c = omega (arith, (c .before .before .before .before .before .before .before .put-products) .ensures .size)
 
 put-children-requires : tie.Need-put-children-requires
-put-children-requires c κs = ((c .before .before .before .before .before .before .before .before .before .put-products) .ensures .grown .table .room, omega arith, omega (arith, (c .before .before .before .before .before .before .before .before .before .before .before .before .before .before .before .before .before .before .before .pre) .summands .few, (c .before .before .before .before .before .before .before .before .before .before .before .before .before .before .before .before .before .before .before .pre) .stack, (c .before .before .before .before .before .before .before .before .before .put-products) .kept .1 .1 .1 .1 .1 .0), omega (arith, (c .before .before .before .before .before .before .before .before .before .put-products) .ensures .size, (c .before .before .before .before .before .before .before .before .before .put-products) .ensures .grown .table .few, (c .before .before .before .before .before .before .before .before .before .before .before .before .before .before .before .before .before .before .before .pre) .ready .table .used))
+put-children-requires c κs = (omega arith, omega (arith, (c .before .before .before .before .before .before .before .before .before .before .before .before .before .before .before .before .before .before .before .pre) .summands .few, (c .before .before .before .before .before .before .before .before .before .before .before .before .before .before .before .before .before .before .before .pre) .stack, (c .before .before .before .before .before .before .before .before .before .put-products) .kept .1 .1 .1 .1 .1 .0), omega (arith, (c .before .before .before .before .before .before .before .before .before .put-products) .ensures .size, (c .before .before .before .before .before .before .before .before .before .put-products) .ensures .grown .table .few, (c .before .before .before .before .before .before .before .before .before .before .before .before .before .before .before .before .before .before .before .pre) .ready .table .used))
 
 cast-put-node : tie.Need-cast-put-node
 cast-put-node c = omega (arith, (c .before .before .before .before .before .before .before .before .before .before .before .before .before .put-products) .ensures .grown .table .few, (c .before .before .before .before .before .before .before .before .before .before .before .before .before .before .before .before .before .before .before .before .before .before .before .pre) .ready .table .used)
@@ -51,7 +51,7 @@ cast-put-node-2 : tie.Need-cast-put-node-2
 cast-put-node-2 c = omega (arith, (c .before .before .before .before .before .before .before .before .before .before .before .before .before .before .before .before .before .before .before .before .before .before .before .pre) .summands .few)
 
 put-node-requires : tie.Need-put-node-requires
-put-node-requires c κs = (omega (arith, (c .before .before .before .before .before .before .before .before .before .before .before .before .before .put-products) .ensures .grown .table .room, (c .before .before .before .put-children) .kept .0), sum-last (c .before .before .before .before .before .before .before .before .before .before .before .before .before .before .before .before .before .before .before .before .before .before .before .pre) ((c .before .before .before .before .before .before .before .before .before .before .before .before .before .put-products) .ensures) (two ((c .before .before .before .before .before .before .before .before .before .before .before .before .before .before .before .before .before .before .before .before .before .before .before .args) .count) ((c .before .before .before .before .before .before .before .before .before .before .before .before .before .before .before .before .before .if1) .left) ((c .before .before .before .before .before .before .if2) .left)))
+put-node-requires c κs = omega (arith, sum-last (c .before .before .before .before .before .before .before .before .before .before .before .before .before .before .before .before .before .before .before .before .before .before .before .pre) ((c .before .before .before .before .before .before .before .before .before .before .before .before .before .put-products) .ensures) (two ((c .before .before .before .before .before .before .before .before .before .before .before .before .before .before .before .before .before .before .before .before .before .before .before .args) .count) ((c .before .before .before .before .before .before .before .before .before .before .before .before .before .before .before .before .before .if1) .left) ((c .before .before .before .before .before .before .if2) .left)), (c .before .before .before .put-children) .kept .0)
 
 add-result-2 : tie.Need-add-result-2
 add-result-2 c = omega (arith, sum-last (c .before .before .before .before .before .before .before .before .before .before .before .before .before .before .before .before .before .before .before .before .before .before .before .before .before .before .pre) ((c .before .before .before .before .before .before .before .before .before .before .before .before .before .before .before .before .put-products) .ensures) (two ((c .before .before .before .before .before .before .before .before .before .before .before .before .before .before .before .before .before .before .before .before .before .before .before .before .before .before .args) .count) ((c .before .before .before .before .before .before .before .before .before .before .before .before .before .before .before .before .before .before .before .before .if1) .left) ((c .before .before .before .before .before .before .before .before .before .if2) .left)))

@@ -1,21 +1,23 @@
 -- `read_vectors::put_children` is safe and ends: the child words from i on are left, and they lie in the table.
-use Prim.Native.Nat.{_+_, _-_}
-use native.Mathlib.Omega.{arith}
+use Prim.Native.Nat.{_-_}
 use borrow.Author.Needs.{needs}
 use Rattle.read_vectors.proofs.put_children.Statement.{statement}
 use Rattle.read_vectors.proofs.put_children.Tie as tie
 
 abbrev Inv-loop : tie.InvT-loop
-Inv-loop nodes c i₀ t4 t5 i = Unit {0}
+Inv-loop nodes c i₀ end t5 t6 i = Unit {0}
 
 abbrev μ-loop : tie.MeasureT-loop
-μ-loop nodes c i₀ t4 t5 i = 12288 + c - i
+μ-loop nodes c i₀ end t5 t6 i = end - i
+
+child-base-requires : tie.Need-child-base-requires Inv-loop μ-loop
+child-base-requires c κs = search needs
+
+add-end : tie.Need-add-end Inv-loop μ-loop
+add-end c = search needs
 
 loop-holds : tie.Need-loop-holds Inv-loop μ-loop
-loop-holds c = omega arith
-
-add-loop : tie.Need-add-loop Inv-loop μ-loop
-add-loop c = omega arith
+loop-holds c = search needs
 
 slice-aggregate-put : tie.Need-slice-aggregate-put Inv-loop μ-loop
 slice-aggregate-put c = search needs
@@ -24,7 +26,7 @@ put-requires : tie.Need-put-requires Inv-loop μ-loop
 put-requires c κs = search needs
 
 mul-put-word : tie.Need-mul-put-word Inv-loop μ-loop
-mul-put-word c = omega arith
+mul-put-word c = search needs
 
 shared-slice-read-put-word : tie.Need-shared-slice-read-put-word Inv-loop μ-loop
 shared-slice-read-put-word c = search needs
@@ -39,16 +41,16 @@ put-requires-2 : tie.Need-put-requires-2 Inv-loop μ-loop
 put-requires-2 c κs = search needs
 
 add-i : tie.Need-add-i Inv-loop μ-loop
-add-i c = omega arith
+add-i c = search needs
 
 loop-less : tie.Need-loop-less Inv-loop μ-loop
-loop-less c = omega arith
+loop-less c = search needs
 
 loop-again : tie.Need-loop-again Inv-loop μ-loop
-loop-again c = omega arith
+loop-again c = search needs
 
 returns : tie.Need-returns Inv-loop μ-loop
-returns c = search needs
+returns c = tt
 
 pub put-children-spec : {M : Type 1} → statement M
 put-children-spec =
@@ -56,8 +58,9 @@ put-children-spec =
     (tie.spec
     Inv-loop
     μ-loop
+    child-base-requires
+    add-end
     loop-holds
-    add-loop
     slice-aggregate-put
     put-requires
     mul-put-word

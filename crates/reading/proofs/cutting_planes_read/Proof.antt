@@ -1,6 +1,8 @@
 -- `reading::cutting_planes_read` owes the answer of each of its ends.
+use mathlib.Core.Path.{_∙_}
 use native.Mathlib.Omega.{arith}
 use lib.ListN.{length-set}
+use lib.Seq.{length-take-le}
 use Rattle.reading.specs.Answer.{Lent}
 use Rattle.reading.proofs.Answering.{too-small, read, refuses, never}
 use borrow.Author.Needs.{needs}
@@ -21,6 +23,15 @@ returns-3 : tie.Need-returns-3
 returns-3 c =
     let given = (c .before .before .before .before .before .before .before .args) in
     too-small (given .text .now) (given .nodes .now) (given .commands .now) (given .answer .now) (λ l. omega (arith, l .answer, (c .if3) .taken))
+
+sub-read-file : tie.Need-sub-read-file
+sub-read-file c = search needs
+
+part-read-file-start : tie.Need-part-read-file-start
+part-read-file-start c = search needs
+
+part-read-file-end : tie.Need-part-read-file-end
+part-read-file-end c = search needs
 
 read-file-requires : tie.Need-read-file-requires
 read-file-requires c κs = search needs
@@ -64,7 +75,7 @@ returns-4 c =
     let given = (c .before .before .before .before .before .before .before .before .before .before .before .before .before .before .before .before .before .args) in
     let call = (c .before .before .before .before .before .before .before .read-file) in
     let large : Lent (given .nodes .now) (given .commands .now) (given .answer .now) = record { nodes = omega (arith, (c .before .before .before .before .before .before .before .before .before .before .before .before .if1) .left); commands = omega (arith, (c .before .before .before .before .before .before .before .before .before .before .before .if2) .left); answer = omega (arith, (c .before .before .before .before .before .before .before .before .before .before .if3) .left) } in
-    read (given .text .now) (given .nodes .now) (call .last .1 .0) (given .commands .now) (call .last .1 .1 .0) (given .answer .now) (call .result) _ _ _ large (call .ensures) ((c .before .k) .given .1)
+    read (given .text .now) (given .nodes .now) _ (call .last .1 .0) _ (given .commands .now) (call .last .1 .1 .0) (given .answer .now) (call .result) _ _ _ large (call .kept .1 .0 ∙ length-take-le 16384 (given .nodes .now) (large .nodes)) (call .ensures) ((c .before .k) .given .1)
 
 same-length-4 : tie.Need-same-length-4
 same-length-4 c = search needs
@@ -80,7 +91,7 @@ returns-5 c =
     let given = (c .before .before .before .before .before .before .before .before .before .before .before .before .before .before .before .before .before .args) in
     let call = (c .before .before .before .before .before .before .before .read-file) in
     let large : Lent (given .nodes .now) (given .commands .now) (given .answer .now) = record { nodes = omega (arith, (c .before .before .before .before .before .before .before .before .before .before .before .before .if1) .left); commands = omega (arith, (c .before .before .before .before .before .before .before .before .before .before .before .if2) .left); answer = omega (arith, (c .before .before .before .before .before .before .before .before .before .before .if3) .left) } in
-    refuses (given .text .now) (given .nodes .now) (call .last .1 .0) (given .commands .now) (call .last .1 .1 .0) (given .answer .now) (call .result) _ _ large (call .ensures) ((c .before .number) .given .1)
+    refuses (given .text .now) (given .nodes .now) _ (call .last .1 .0) _ (given .commands .now) (call .last .1 .1 .0) (given .answer .now) (call .result) _ _ large (call .ensures) ((c .before .number) .given .1)
 
 same-length-7 : tie.Need-same-length-7
 same-length-7 c = search needs
@@ -93,7 +104,7 @@ returns-6 c =
     let given = (c .before .before .before .before .before .before .before .before .before .before .before .before .before .before .before .before .args) in
     let call = (c .before .before .before .before .before .before .read-file) in
     let large : Lent (given .nodes .now) (given .commands .now) (given .answer .now) = record { nodes = omega (arith, (c .before .before .before .before .before .before .before .before .before .before .before .if1) .left); commands = omega (arith, (c .before .before .before .before .before .before .before .before .before .before .if2) .left); answer = omega (arith, (c .before .before .before .before .before .before .before .before .before .if3) .left) } in
-    let z : ⊥ = never (given .text .now) (given .nodes .now) (call .last .1 .0) (given .commands .now) (call .last .1 .1 .0) (given .answer .now) (call .result) large (call .ensures) ((c .enum-told) .given .1) in
+    let z : ⊥ = never (given .text .now) (given .nodes .now) _ (call .last .1 .0) (given .commands .now) (call .last .1 .1 .0) (given .answer .now) (call .result) large (length-take-le 16384 (given .nodes .now) (large .nodes)) (call .ensures) ((c .enum-told) .given .1) in
     absurd z
 
 pub cutting-planes-read-spec : {M : Type 1} → statement M
@@ -103,6 +114,9 @@ cutting-planes-read-spec =
     returns
     returns-2
     returns-3
+    sub-read-file
+    part-read-file-start
+    part-read-file-end
     read-file-requires
     enum-known-k
     slice-write-answer

@@ -28,13 +28,13 @@ cast-slots : tie.Need-cast-slots
 cast-slots c = search needs
 
 slot-of-requires : tie.Need-slot-of-requires
-slot-of-requires c κs = (c .before .before .pre) .1 .1
+slot-of-requires c κs = (c .before .before .before .pre) .1 .1
 
 mul-slots : tie.Need-mul-slots
 mul-slots c = omega (arith, (c .slot-of) .ensures .1)
 
 slice-write-slots : tie.Need-slice-write-slots
-slice-write-slots c = omega (arith, (c .slot-of) .ensures .0, (c .before .before .before .pre) .1 .1, (c .before .before .before .pre) .0 .slots)
+slice-write-slots c = omega (arith, (c .slot-of) .ensures .1)
 
 add-result : tie.Need-add-result
 add-result c = search needs
@@ -49,7 +49,7 @@ same-length-3 : tie.Need-same-length-3
 same-length-3 c = search needs
 
 returns : tie.Need-returns
-returns c = rw ((c .slot-of) .ensures .0, toZ-ofZ ((c .before .before .before .fits) .c)) (appended-at ((c .before .before .before .args) .at) ((c .before .before .before .args) .coeffs .now) ((c .before .before .before .args) .keys .now) ((c .before .before .before .args) .slots .now) ((c .before .before .before .args) .n) ((c .before .before .before .args) .key) _ ((c .before .before .before .pre) .0) ((c .before .before .before .pre) .1 .0) ((c .before .before .before .pre) .1 .1))
+returns c = rw ((c .slot-of) .ensures .0, toZ-ofZ ((c .before .before .before .before .fits) .c)) (appended-at ((c .before .before .before .before .args) .at) ((c .before .before .before .before .args) .coeffs .now) ((c .before .before .before .before .args) .keys .now) ((c .before .before .before .before .args) .slots .now) ((c .before .before .before .before .args) .n) ((c .before .before .before .before .args) .key) _ ((c .before .before .before .before .pre) .0 .1) ((c .before .before .before .before .pre) .0 .2) ((c .before .before .before .before .pre) .1 .0) ((c .before .before .before .before .pre) .1 .1))
 
 pub append-spec : {M : Type 1} → statement M
 append-spec =
@@ -61,8 +61,8 @@ append-spec =
     add-keys
     mul-keys
     slice-write-keys
-    cast-slots
     slot-of-requires
+    cast-slots
     mul-slots
     slice-write-slots
     add-result

@@ -28,13 +28,13 @@ returns : tie.Need-returns
 returns c = find-walked (λ o. omega (arith, (c .before .before .kind-of) .ensures ∙ ap (kindAt ((c .before .before .before .before .before .before .before .before .args) .nodes .now)) ((c .before .before .before .wide) .ensures ∙ (c .before .before .before .before .variable-of) .ensures))) ((c .walk) .ensures)
 
 slot-of-requires : tie.Need-slot-of-requires
-slot-of-requires c κs = key-below ((c .before .before .before .before .before .before .before .pre) .0)
+slot-of-requires c κs = key-below ((c .before .before .before .before .before .before .before .args) .slots .now) ((c .before .before .before .before .before .before .before .pre) .1 .slots) ((c .before .before .before .before .before .before .before .pre) .0)
 
 mul-wide-short : tie.Need-mul-wide-short
 mul-wide-short c = omega (arith, (c .slot-of) .ensures .1)
 
 shared-slice-read-wide-short : tie.Need-shared-slice-read-wide-short
-shared-slice-read-wide-short c = omega (arith, (c .before .slot-of) .ensures .0, key-below ((c .before .before .before .before .before .before .before .before .before .pre) .0), (c .before .before .before .before .before .before .before .before .before .pre) .1 .slots)
+shared-slice-read-wide-short c = omega (arith, (c .before .slot-of) .ensures .1)
 
 wide-short-requires : tie.Need-wide-short-requires
 wide-short-requires c κs = search needs
@@ -49,13 +49,13 @@ shared-slice-read-if3 : tie.Need-shared-slice-read-if3
 shared-slice-read-if3 c = search needs
 
 returns-2 : tie.Need-returns-2
-returns-2 c = find-here ((c .before .before .before .before .before .before .before .before .before .before .before .before .before .args) .key) ((c .before .before .before .before .before .before .before .before .before .before .before .before .before .pre) .0) ((c .before .before .before .before .before .before .before .before .before .before .before .before .before .pre) .1 .fine) (omega (arith, (c .before .before .before .before .before .before .before .kind-of) .ensures ∙ ap (kindAt ((c .before .before .before .before .before .before .before .before .before .before .before .before .before .args) .nodes .now)) ((c .before .before .before .before .before .before .before .before .wide) .ensures ∙ (c .before .before .before .before .before .before .before .before .before .variable-of) .ensures))) ((c .before .before .before .wide-short) .result) ((c .before .before .before .wide-short) .ensures ∙ ap (λ (k : ℕ). getD ((c .before .before .before .before .before .before .before .before .before .before .before .before .before .args) .slots .now) k 0) ((c .before .before .before .before .before .slot-of) .ensures .0) ∙ sym (slot-at ((c .before .before .before .before .before .before .before .before .before .before .before .before .before .args) .at) ((c .before .before .before .before .before .before .before .before .before .before .before .before .before .args) .slots .now) ((c .before .before .before .before .before .before .before .before .before .before .before .before .before .args) .key) (key-below ((c .before .before .before .before .before .before .before .before .before .before .before .before .before .pre) .0)))) (omega arith) (rw (key-at ((c .before .before .before .before .before .before .before .before .before .before .before .before .before .args) .at) ((c .before .before .before .before .before .before .before .before .before .before .before .before .before .args) .keys .now) ((c .before .before .before .wide-short) .result) (omega (arith, (c .before .before .before .before .before .before .before .before .before .before .before .before .before .pre) .1 .fine .few))) (omega arith))
+returns-2 c = find-here ((c .before .before .before .before .before .before .before .before .before .before .before .before .before .args) .key) ((c .before .before .before .before .before .before .before .before .before .before .before .before .before .pre) .0) ((c .before .before .before .before .before .before .before .before .before .before .before .before .before .pre) .1 .fine) (omega (arith, (c .before .before .before .before .before .before .before .kind-of) .ensures ∙ ap (kindAt ((c .before .before .before .before .before .before .before .before .before .before .before .before .before .args) .nodes .now)) ((c .before .before .before .before .before .before .before .before .wide) .ensures ∙ (c .before .before .before .before .before .before .before .before .before .variable-of) .ensures))) ((c .before .before .before .wide-short) .result) ((c .before .before .before .wide-short) .ensures ∙ ap (λ (k : ℕ). getD ((c .before .before .before .before .before .before .before .before .before .before .before .before .before .args) .slots .now) k 0) ((c .before .before .before .before .before .slot-of) .ensures .0) ∙ sym (slot-at ((c .before .before .before .before .before .before .before .before .before .before .before .before .before .args) .at) ((c .before .before .before .before .before .before .before .before .before .before .before .before .before .args) .slots .now) ((c .before .before .before .before .before .before .before .before .before .before .before .before .before .args) .key) (key-below ((c .before .before .before .before .before .before .before .before .before .before .before .before .before .args) .slots .now) ((c .before .before .before .before .before .before .before .before .before .before .before .before .before .pre) .1 .slots) ((c .before .before .before .before .before .before .before .before .before .before .before .before .before .pre) .0)))) (omega arith) (rw (key-at ((c .before .before .before .before .before .before .before .before .before .before .before .before .before .args) .at) ((c .before .before .before .before .before .before .before .before .before .before .before .before .before .args) .keys .now) ((c .before .before .before .wide-short) .result) (omega (arith, (c .before .before .before .before .before .before .before .before .before .before .before .before .before .pre) .1 .fine .few))) (omega arith))
 
 returns-3 : tie.Need-returns-3
-returns-3 c = find-none ((c .before .before .before .before .before .before .before .before .before .before .before .before .before .args) .key) ((c .before .before .before .before .before .before .before .before .before .before .before .before .before .pre) .0) ((c .before .before .before .before .before .before .before .before .before .before .before .before .before .pre) .1 .fine) (omega (arith, (c .before .before .before .before .before .before .before .kind-of) .ensures ∙ ap (kindAt ((c .before .before .before .before .before .before .before .before .before .before .before .before .before .args) .nodes .now)) ((c .before .before .before .before .before .before .before .before .wide) .ensures ∙ (c .before .before .before .before .before .before .before .before .before .variable-of) .ensures))) ((c .before .before .before .wide-short) .result) ((c .before .before .before .wide-short) .ensures ∙ ap (λ (k : ℕ). getD ((c .before .before .before .before .before .before .before .before .before .before .before .before .before .args) .slots .now) k 0) ((c .before .before .before .before .before .slot-of) .ensures .0) ∙ sym (slot-at ((c .before .before .before .before .before .before .before .before .before .before .before .before .before .args) .at) ((c .before .before .before .before .before .before .before .before .before .before .before .before .before .args) .slots .now) ((c .before .before .before .before .before .before .before .before .before .before .before .before .before .args) .key) (key-below ((c .before .before .before .before .before .before .before .before .before .before .before .before .before .pre) .0)))) (λ a. rw (key-at ((c .before .before .before .before .before .before .before .before .before .before .before .before .before .args) .at) ((c .before .before .before .before .before .before .before .before .before .before .before .before .before .args) .keys .now) ((c .before .before .before .wide-short) .result) (omega (arith, (c .before .before .before .before .before .before .before .before .before .before .before .before .before .pre) .1 .fine .few))) (λ b. omega arith))
+returns-3 c = find-none ((c .before .before .before .before .before .before .before .before .before .before .before .before .before .args) .key) ((c .before .before .before .before .before .before .before .before .before .before .before .before .before .pre) .0) ((c .before .before .before .before .before .before .before .before .before .before .before .before .before .pre) .1 .fine) (omega (arith, (c .before .before .before .before .before .before .before .kind-of) .ensures ∙ ap (kindAt ((c .before .before .before .before .before .before .before .before .before .before .before .before .before .args) .nodes .now)) ((c .before .before .before .before .before .before .before .before .wide) .ensures ∙ (c .before .before .before .before .before .before .before .before .before .variable-of) .ensures))) ((c .before .before .before .wide-short) .result) ((c .before .before .before .wide-short) .ensures ∙ ap (λ (k : ℕ). getD ((c .before .before .before .before .before .before .before .before .before .before .before .before .before .args) .slots .now) k 0) ((c .before .before .before .before .before .slot-of) .ensures .0) ∙ sym (slot-at ((c .before .before .before .before .before .before .before .before .before .before .before .before .before .args) .at) ((c .before .before .before .before .before .before .before .before .before .before .before .before .before .args) .slots .now) ((c .before .before .before .before .before .before .before .before .before .before .before .before .before .args) .key) (key-below ((c .before .before .before .before .before .before .before .before .before .before .before .before .before .args) .slots .now) ((c .before .before .before .before .before .before .before .before .before .before .before .before .before .pre) .1 .slots) ((c .before .before .before .before .before .before .before .before .before .before .before .before .before .pre) .0)))) (λ a. rw (key-at ((c .before .before .before .before .before .before .before .before .before .before .before .before .before .args) .at) ((c .before .before .before .before .before .before .before .before .before .before .before .before .before .args) .keys .now) ((c .before .before .before .wide-short) .result) (omega (arith, (c .before .before .before .before .before .before .before .before .before .before .before .before .before .pre) .1 .fine .few))) (λ b. omega arith))
 
 returns-4 : tie.Need-returns-4
-returns-4 c = find-none ((c .before .before .before .before .before .before .before .before .before .before .before .args) .key) ((c .before .before .before .before .before .before .before .before .before .before .before .pre) .0) ((c .before .before .before .before .before .before .before .before .before .before .before .pre) .1 .fine) (omega (arith, (c .before .before .before .before .before .kind-of) .ensures ∙ ap (kindAt ((c .before .before .before .before .before .before .before .before .before .before .before .args) .nodes .now)) ((c .before .before .before .before .before .before .wide) .ensures ∙ (c .before .before .before .before .before .before .before .variable-of) .ensures))) ((c .before .wide-short) .result) ((c .before .wide-short) .ensures ∙ ap (λ (k : ℕ). getD ((c .before .before .before .before .before .before .before .before .before .before .before .args) .slots .now) k 0) ((c .before .before .before .slot-of) .ensures .0) ∙ sym (slot-at ((c .before .before .before .before .before .before .before .before .before .before .before .args) .at) ((c .before .before .before .before .before .before .before .before .before .before .before .args) .slots .now) ((c .before .before .before .before .before .before .before .before .before .before .before .args) .key) (key-below ((c .before .before .before .before .before .before .before .before .before .before .before .pre) .0)))) (λ a b. omega arith)
+returns-4 c = find-none ((c .before .before .before .before .before .before .before .before .before .before .before .args) .key) ((c .before .before .before .before .before .before .before .before .before .before .before .pre) .0) ((c .before .before .before .before .before .before .before .before .before .before .before .pre) .1 .fine) (omega (arith, (c .before .before .before .before .before .kind-of) .ensures ∙ ap (kindAt ((c .before .before .before .before .before .before .before .before .before .before .before .args) .nodes .now)) ((c .before .before .before .before .before .before .wide) .ensures ∙ (c .before .before .before .before .before .before .before .variable-of) .ensures))) ((c .before .wide-short) .result) ((c .before .wide-short) .ensures ∙ ap (λ (k : ℕ). getD ((c .before .before .before .before .before .before .before .before .before .before .before .args) .slots .now) k 0) ((c .before .before .before .slot-of) .ensures .0) ∙ sym (slot-at ((c .before .before .before .before .before .before .before .before .before .before .before .args) .at) ((c .before .before .before .before .before .before .before .before .before .before .before .args) .slots .now) ((c .before .before .before .before .before .before .before .before .before .before .before .args) .key) (key-below ((c .before .before .before .before .before .before .before .before .before .before .before .args) .slots .now) ((c .before .before .before .before .before .before .before .before .before .before .before .pre) .1 .slots) ((c .before .before .before .before .before .before .before .before .before .before .before .pre) .0)))) (λ a b. omega arith)
 
 pub find-spec : {M : Type 1} → statement M
 find-spec =

@@ -27,7 +27,7 @@ returns : tie.Need-returns
 returns c = let a = rw (toZ-ofZ ((c .before .before .before .before .before .before .before .before .before .before .fits) .c)) at ((c .before .add-to) .ensures) in (put-added (placed ((c .before .before .before .before .before .before .before .before .before .before .args) .at) ((c .before .before .before .before .before .before .before .before .before .before .args) .coeffs .now)) ((c .before .before .before .before .before .before .before .before .before .before .args) .c) ((c .before .before .before .before .find) .ensures) ((c .before .before .before .before .before .before .before .before .before .before .pre) .1 .1 .0 .0) (placed ((c .before .before .before .before .before .before .before .before .before .before .args) .at) ((c .before .add-to) .last .0)) (omega arith) (a .0), elsewhere-coefficients ((c .before .before .before .before .before .before .before .before .before .before .args) .at) ((c .before .before .before .before .before .before .before .before .before .before .args) .coeffs .now) ((c .before .before .before .before .before .before .before .before .before .before .args) .keys .now) ((c .before .before .before .before .before .before .before .before .before .before .args) .slots .now) (a .1))
 
 append-requires : tie.Need-append-requires
-append-requires c κs = ((c .before .before .before .before .before .before .before .before .before .before .pre) .1 .0, ((c .before .before .before .before .before .before .before .before .before .before .pre) .1 .1 .0 .1, key-below ((c .before .before .before .before .before .before .before .before .before .before .pre) .0)))
+append-requires c κs = (((c .before .before .before .before .before .before .before .before .before .before .pre) .1 .0 .few, (c .before .before .before .before .before .before .before .before .before .before .pre) .1 .0 .coefficients, (c .before .before .before .before .before .before .before .before .before .before .pre) .1 .0 .keys), ((c .before .before .before .before .before .before .before .before .before .before .pre) .1 .1 .0 .1, key-below ((c .before .before .before .before .before .before .before .before .before .before .args) .slots .now) ((c .before .before .before .before .before .before .before .before .before .before .pre) .1 .0 .slots) ((c .before .before .before .before .before .before .before .before .before .before .pre) .0)))
 
 same-length-4 : tie.Need-same-length-4
 same-length-4 c = search needs

@@ -11,10 +11,10 @@ wide-requires : tie.Need-wide-requires
 wide-requires c κs = search needs
 
 add-result : tie.Need-add-result
-add-result c = omega (arith, (c .wide) .ensures, (c .before .before .pre), (c .before .slots-of) .ensures .1)
+add-result c = omega (arith, (c .wide) .ensures, (c .before .before .before .pre), (c .before .slots-of) .ensures .1)
 
 returns : tie.Need-returns
-returns c = (omega (arith, (c .wide) .ensures, (c .before .slots-of) .ensures .0), omega (arith, (c .wide) .ensures, (c .before .before .pre), (c .before .slots-of) .ensures .1))
+returns c = (omega (arith, (c .wide) .ensures, (c .before .slots-of) .ensures .0), omega (arith, (c .wide) .ensures, (c .before .before .before .pre), (c .before .slots-of) .ensures .1))
 
 pub slot-of-spec : {M : Type 1} → statement M
 slot-of-spec =
