@@ -1,4 +1,4 @@
-/* Checks a cutting-planes proof from C: a text of assumptions and steps in, a report with a line for each and totals out. The constraints
+/* Checks a cutting-planes proof from C: a text of assumptions, steps and pol lines in, a report with a line for each and totals out. The constraints
  * can also come from an OPB text, with the proof text behind it.
  *
  * The library is target/staticlib/libchecker.a, which `rt staticlib checker` writes (x86-64 Linux). It needs nothing but C's memcpy and
@@ -36,8 +36,8 @@ extern "C" {
  *
  * No pointer may be null, also where its length is 0; nodes is aligned as a uint32_t is. The three may not overlap. The library keeps no
  * pointer after it returns, has no state of its own, calls no function that has, and allocates nothing: calls from several threads
- * at once are fine as long as no two of them share a table. A call took up to 108,608 bytes of stack on the
- * longest and deepest texts of tests/vectors/reports; have 512 KB free.
+ * at once are fine as long as no two of them share a table. A call took up to 123,600 bytes of stack on the
+ * deepest texts, and on one with pol lines, for which it makes a larger table, up to 892,416; have 2 MB free.
  */
 size_t cutting_planes_check(
     const uint8_t *text, size_t text_length,
@@ -61,7 +61,7 @@ size_t cutting_planes_check(
  *
  * No pointer may be null, also where its length is 0; nodes is aligned as a uint32_t is. opb and text are only read and may overlap each
  * other; nodes and report may overlap nothing. All else is as above. A call took up to 203,488 bytes of stack on the longest
- * and deepest texts of tests/vectors/opb and tests/vectors/reports; have 512 KB free.
+ * and deepest texts without pol lines, and up to 960,000 with them; have 2 MB free.
  */
 size_t cutting_planes_check_opb(
     const uint8_t *opb, size_t opb_length,

@@ -3,14 +3,14 @@
 use crate::brute::Outcome;
 use crate::pair::Pair;
 use crate::report::{Line, Report};
-use crate::rules::{Rule, ANSWERS, RULES};
+use crate::rules::{Rule, ANSWERING, ANSWERS};
 use crate::texts;
 use std::fmt::Write;
 
 /// From so many texts on a run has to have reached everything that can be reached.
 pub const LONG: u64 = 50_000;
 
-const RULES_AND_ASSUME: usize = RULES.len() + 1;
+const RULES_AND_ASSUME: usize = ANSWERING.len() + 1;
 
 /// The refusals of a proof text, and of an OPB text.
 const REFUSALS: [usize; 8] = [1, 2, 3, 4, 5, 6, 7, 8];
@@ -62,7 +62,7 @@ struct Pairs {
     tried_refuted: u64,
 }
 
-/// Counts of answers, from 0 to 41.
+/// Counts of answers, from 0 to 54.
 struct Answers([u64; ANSWERS]);
 
 impl Default for Answers {
@@ -164,15 +164,15 @@ impl Count {
         format!("{seconds:6.0} s: {} texts, {} steps, {} marked lines tried, no difference", self.texts, self.steps, self.tried)
     }
 
-    /// What a long run should have reached and did not, and answers that document 01 does not have for a rule.
+    /// What a long run should have reached and did not, and answers that the documents do not have for a rule.
     pub fn missing(&self) -> Vec<String> {
         let mut missing = Vec::new();
-        for rule in RULES {
+        for rule in ANSWERING {
             let counts = &self.answers[rule as usize].0;
             for (answer, count) in counts.iter().enumerate() {
                 match (rule.answers().contains(&(answer as u8)), count) {
                     (true, 0) => missing.push(format!("{} never answered {answer}", rule.name())),
-                    (false, 1..) => missing.push(format!("{} answered {answer}, which document 01 does not have", rule.name())),
+                    (false, 1..) => missing.push(format!("{} answered {answer}, which the documents do not have", rule.name())),
                     _ => (),
                 }
             }
@@ -186,7 +186,7 @@ impl Count {
 
     fn missing_marks(&self) -> Vec<String> {
         let mut missing = Vec::new();
-        for rule in RULES {
+        for rule in ANSWERING {
             let (accepted, plain, holds) =
                 (self.answers[rule as usize].0[0], self.plain[rule as usize], self.holds[rule as usize]);
             if holds == 0 || holds == plain {
@@ -239,10 +239,10 @@ impl Count {
 
     fn answer_table(&self, text: &mut String) {
         let _ = write!(text, "{:>8}", "answer");
-        *text += &RULES.map(|rule| format!("{:>18}", rule.name())).concat();
-        for answer in (0..ANSWERS).filter(|answer| RULES.iter().any(|rule| self.answers[*rule as usize].0[*answer] > 0)) {
+        *text += &ANSWERING.map(|rule| format!("{:>18}", rule.name())).concat();
+        for answer in (0..ANSWERS).filter(|answer| ANSWERING.iter().any(|rule| self.answers[*rule as usize].0[*answer] > 0)) {
             let _ = write!(text, "\n{answer:>8}");
-            for rule in RULES {
+            for rule in ANSWERING {
                 let count = self.answers[rule as usize].0[answer];
                 let _ = match count {
                     0 => write!(text, "{:>18}", "-"),
@@ -256,7 +256,7 @@ impl Count {
     fn mark_table(&self, text: &mut String) {
         for (name, counts) in [("plain", &self.plain), ("holds", &self.holds)] {
             let _ = write!(text, "{name:>8}");
-            *text += &RULES.map(|rule| format!("{:>18}", counts[rule as usize])).concat();
+            *text += &ANSWERING.map(|rule| format!("{:>18}", counts[rule as usize])).concat();
             let _ = writeln!(text, "  assumptions {}", counts[Rule::Assume as usize]);
         }
         let _ = writeln!(text, "steps {}", self.steps);
@@ -269,7 +269,7 @@ mod tests {
     use crate::brute::Outcome;
     use crate::pair::Pair;
     use crate::report::{Line, Report};
-    use crate::rules::RULES;
+    use crate::rules::{ANSWERING, RULES};
 
     /// A count that has everything once.
     fn all_reached() -> Count {
@@ -280,7 +280,7 @@ mod tests {
         (2..9).for_each(|number| count.report(&Report::Refused(number), &behind));
         let refused = Pair::behind(b";".to_vec(), Vec::new());
         OPB_REFUSALS.iter().for_each(|number| count.report(&Report::Refused(*number as u8), &refused));
-        for rule in RULES {
+        for rule in ANSWERING {
             let refused = rule.answers()[1..].iter().map(|answer| Line { rule, answer: *answer, plain: false, holds: false });
             let accepted = [(true, true), (true, false), (!rule.can_be_unplain(), false)];
             let accepted = accepted.map(|(plain, holds)| Line { rule, answer: 0, plain, holds });
@@ -294,8 +294,8 @@ mod tests {
     #[test]
     fn everything_is_asked_for() {
         assert!(all_reached().missing().is_empty());
-        let pairs: usize = RULES.iter().map(|rule| rule.answers().len()).sum();
-        assert_eq!(pairs, 80);
+        let pairs: usize = ANSWERING.iter().map(|rule| rule.answers().len()).sum();
+        assert_eq!(pairs, 84);
         assert!(Count::default().missing().len() >= pairs + 2 * REFUSALS.len() + OPB_REFUSALS.len());
     }
 
@@ -311,6 +311,6 @@ mod tests {
         let mut count = all_reached();
         let line = Line { rule: RULES[4], answer: 20, plain: false, holds: false };
         count.report(&Report::Read(vec![line], false), &Pair::alone(Vec::new()));
-        assert_eq!(count.missing(), ["cp_literal answered 20, which document 01 does not have"]);
+        assert_eq!(count.missing(), ["cp_literal answered 20, which the documents do not have"]);
     }
 }

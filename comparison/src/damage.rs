@@ -24,11 +24,11 @@ pub fn tokens(text: &[u8]) -> Vec<&[u8]> {
     result
 }
 
-const WORDS: [&str; 44] = [
-    "(", ")", "(", ")", "()", "cl", "assume", "step", "and", ":rule", ":premises", ":args", "cp_addition", "cp_part", "cp_foo",
-    "+", "-", "*", ">=", ">", "<=", "<", "=", "==", "x", "y", "s0", "s1", "0", "1", "-1", "-0", "007", "99999999", "100000000",
-    "-99999999", "-100000000", "1x", "--1", "+1", ":foo", ";x", "abcdefghijklmnopqrstuvwxyz_012345",
-    "abcdefghijklmnopqrstuvwxyz_0123456",
+const WORDS: [&str; 55] = [
+    "pol", "(pol", "(pol p", "~x", "~s0", "~", "~cl", "d", "s", "2 d", "3 *", "(", ")", "(", ")", "()", "cl", "assume", "step",
+    "and", ":rule", ":premises", ":args", "cp_addition", "cp_part", "cp_foo", "+", "-", "*", ">=", ">", "<=", "<", "=", "==",
+    "x", "y", "s0", "s1", "0", "1", "-1", "-0", "007", "99999999", "100000000", "-99999999", "-100000000", "1x", "--1", "+1",
+    ":foo", ";x", "abcdefghijklmnopqrstuvwxyz_012345", "abcdefghijklmnopqrstuvwxyz_0123456",
 ];
 
 /// A copy with one change of its tokens or bytes, or a few.
@@ -84,7 +84,7 @@ fn any_byte(random: &mut Random) -> u8 {
     match random.below(4) {
         0 => random.below(256) as u8,
         1 => *random.one(b"\x00\x08\x09\x0a\x0b\x0c\x0d\x1f\x20\x7e\x7f\x80\xff"),
-        _ => *random.one(b"()+-*<>=:_@.;'\"01289aclxyzAZ \n\t"),
+        _ => *random.one(b"()+-*<>=:_@.;'\"~01289acdlsxyzAZ \n\t"),
     }
 }
 

@@ -33,7 +33,7 @@ fn candidate(name: String, text: Vec<u8>) -> Option<Candidate> {
     let Report::Read(lines, _) = parsed(&report)? else { return None };
     let mut reached = [[0; ANSWERS]; RULES.len()];
     let mut steps = 0;
-    for line in lines.iter().filter(|line| line.rule != Rule::Assume) {
+    for line in lines.iter().filter(|line| RULES.contains(&line.rule)) {
         reached[line.rule as usize][usize::from(line.answer)] += 1;
         steps += 1;
     }

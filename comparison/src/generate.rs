@@ -61,7 +61,7 @@ impl<'r> Maker<'r> {
             2 => format!("_{:031}", number),
             _ => format!("s{number}"),
         };
-        self.commands.push(Command { id, rule, clause, premises, arguments, missed: false, given: false });
+        self.commands.push(Command { id, rule, clause, premises, arguments, words: Vec::new(), missed: false, given: false });
         number
     }
 

@@ -17,6 +17,8 @@ mod opb_limits;
 mod opb_write;
 mod options;
 mod pair;
+mod pol_limits;
+mod pols;
 mod random;
 mod report;
 mod rules;
@@ -140,7 +142,8 @@ impl Run<'_> {
     fn texts(&mut self) -> Result<(), String> {
         let alone = limits::all().into_iter().map(|text| (texts::LIMIT, Pair::alone(text)));
         let both = opb_limits::all().into_iter().map(|pair| (texts::OPB_LIMIT, pair));
-        for (place, (kind, pair)) in alone.chain(both).enumerate() {
+        let pol = pol_limits::all().into_iter().map(|text| (texts::POL_LIMIT, Pair::alone(text)));
+        for (place, (kind, pair)) in alone.chain(both).chain(pol).enumerate() {
             let mut random = Random::new(self.options.seed, place as u64);
             self.text(kind, &pair, &mut random, &format!("limit {place}"))?;
         }

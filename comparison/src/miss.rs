@@ -26,6 +26,7 @@ impl Maker<'_> {
             Rule::Literal => self.miss_literal(number),
             Rule::Transfer | Rule::Part => self.miss_link(number),
             Rule::Assume => self.change_clause_term(number),
+            Rule::Pol => self.miss_pol(number),
             _ if !self.commands[number].arguments.is_empty() && self.random.chance(25) => self.miss_arguments(number),
             _ => self.miss_sum(number),
         }

@@ -1,6 +1,6 @@
-//! The rules, and the answers that document 01 has for each.
+//! The rules, and the answers that documents 01 and 02 have for each.
 
-/// A rule, or an assumption.
+/// A rule, an assumption or a pol line.
 #[derive(Clone, Copy, Debug, PartialEq, Eq)]
 pub enum Rule {
     Addition,
@@ -12,6 +12,7 @@ pub enum Rule {
     Transfer,
     Part,
     Assume,
+    Pol,
 }
 
 /// The rules of steps.
@@ -26,12 +27,25 @@ pub const RULES: [Rule; 8] = [
     Rule::Part,
 ];
 
-/// How many numbers an answer can be: 0 to 41.
-pub const ANSWERS: usize = 42;
+/// What has answers: the rules of steps, and pol lines.
+pub const ANSWERING: [Rule; 9] = [
+    Rule::Addition,
+    Rule::Multiplication,
+    Rule::Division,
+    Rule::Saturation,
+    Rule::Literal,
+    Rule::Normalize,
+    Rule::Transfer,
+    Rule::Part,
+    Rule::Pol,
+];
 
-const NAMES: [&str; 9] = [
+/// How many numbers an answer can be: 0 to 54.
+pub const ANSWERS: usize = 55;
+
+const NAMES: [&str; 10] = [
     "cp_addition", "cp_multiplication", "cp_division", "cp_saturation", "cp_literal", "cp_normalize", "cp_transfer", "cp_part",
-    "assume",
+    "assume", "pol",
 ];
 
 impl Rule {
@@ -42,7 +56,7 @@ impl Rule {
 
     /// The rule of a name.
     pub fn named(name: &[u8]) -> Option<Rule> {
-        let all = RULES.iter().copied().chain([Rule::Assume]);
+        let all = ANSWERING.iter().copied().chain([Rule::Assume]);
         all.into_iter().find(|rule| rule.name().as_bytes() == name)
     }
 
@@ -53,11 +67,11 @@ impl Rule {
             Rule::Multiplication | Rule::Division | Rule::Part => (1, 1),
             Rule::Saturation => (1, 0),
             Rule::Literal => (0, 1),
-            Rule::Normalize | Rule::Assume => (0, 0),
+            Rule::Normalize | Rule::Assume | Rule::Pol => (0, 0),
         }
     }
 
-    /// The answers that the rule can have, from sections 2 to 5 of document 01.
+    /// The answers that the rule can have, from sections 2 to 5 of document 01 and No. 2 of document 02.
     pub fn answers(self) -> &'static [u8] {
         match self {
             Rule::Addition => &[0, 20, 21, 22, 23, 24, 25, 26, 29, 30, 31, 40],
@@ -68,11 +82,12 @@ impl Rule {
             Rule::Normalize => &[0, 21, 22, 23, 24, 29, 37, 38, 39, 40],
             Rule::Transfer | Rule::Part => &[0, 20, 21, 22, 41],
             Rule::Assume => &[0],
+            Rule::Pol => &[0, 52, 53, 54],
         }
     }
 
     /// Whether an accepted step of the rule can be marked `plain=no`.
     pub fn can_be_unplain(self) -> bool {
-        !matches!(self, Rule::Literal | Rule::Transfer | Rule::Part | Rule::Assume)
+        !matches!(self, Rule::Literal | Rule::Transfer | Rule::Part | Rule::Assume | Rule::Pol)
     }
 }

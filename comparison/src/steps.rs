@@ -40,6 +40,7 @@ impl Maker<'_> {
             Rule::Transfer => self.transfer(),
             Rule::Part => self.part(),
             Rule::Assume => self.readable(false),
+            Rule::Pol => self.pol(),
         }
     }
 

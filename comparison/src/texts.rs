@@ -7,12 +7,14 @@ use crate::models;
 use crate::opb_damage;
 use crate::opb_limits;
 use crate::pair::Pair;
+use crate::pol_limits;
+use crate::pols;
 use crate::random::Random;
 
 /// Kinds of texts and of pairs, for counting.
-pub const KINDS: [&str; 14] = [
+pub const KINDS: [&str; 16] = [
     "proofs", "chains", "refutations", "faults", "statements", "long proofs", "damaged", "raw bytes", "limits", "models",
-    "damaged OPB texts", "damaged proofs behind them", "raw OPB texts", "limits of both",
+    "damaged OPB texts", "damaged proofs behind them", "raw OPB texts", "limits of both", "pol lines", "limits of pol lines",
 ];
 
 /// One index in so many has a pair.
@@ -32,6 +34,8 @@ const DAMAGED_OPB: usize = 10;
 const DAMAGED_BEHIND: usize = 11;
 const RAW_OPB: usize = 12;
 pub const OPB_LIMIT: usize = 13;
+const POL: usize = 14;
+pub const POL_LIMIT: usize = 15;
 
 /// What an index has, and its kind: a text, or a pair of texts.
 pub fn text(seed: u64, index: u64) -> (usize, Pair) {
@@ -40,15 +44,17 @@ pub fn text(seed: u64, index: u64) -> (usize, Pair) {
         return pair(&mut random);
     }
     let kind = match random.below(1000) {
-        0..=349 => PROOF,
-        350..=549 => CHAIN,
-        550..=609 => REFUTATION,
-        610..=699 => FAULTS,
-        700..=779 => STATEMENTS,
-        780..=783 => LONG,
+        0..=269 => PROOF,
+        270..=419 => CHAIN,
+        420..=469 => REFUTATION,
+        470..=539 => FAULTS,
+        540..=599 => STATEMENTS,
+        600..=603 => LONG,
+        604..=783 => POL,
         784..=967 => DAMAGED,
-        968..=997 => RAW,
-        _ => LIMIT,
+        968..=995 => RAW,
+        996 | 997 => LIMIT,
+        _ => POL_LIMIT,
     };
     (kind, Pair::alone(of_kind(kind, &mut random)))
 }
@@ -83,12 +89,14 @@ fn pair(random: &mut Random) -> (usize, Pair) {
 
 /// An OPB text with a proof behind it.
 fn model(random: &mut Random) -> Pair {
-    let kind = *random.one(&[PROOF, PROOF, PROOF, CHAIN, REFUTATION, REFUTATION, FAULTS, STATEMENTS]);
+    let kind = *random.one(&[PROOF, PROOF, PROOF, CHAIN, REFUTATION, REFUTATION, FAULTS, STATEMENTS, POL, POL, POL]);
     let count = *random.one(&[0, 1, 1, 2, 2, 3, 4, 12]);
     let kind = if random.chance(1) { LONG } else { kind };
     let mut maker = Maker::with_names(random, &models::POOL);
     if kind == REFUTATION {
         maker.refutation();
+    } else if kind == POL && maker.random.chance(30) {
+        maker.pol_refutation();
     } else {
         maker.model(count);
         fill(kind, &mut maker);
@@ -100,14 +108,15 @@ fn of_kind(kind: usize, random: &mut Random) -> Vec<u8> {
     match kind {
         RAW => return damage::raw(random),
         LIMIT => return maybe_damaged(limits::any(random), random),
+        POL_LIMIT => return maybe_damaged(pol_limits::any(random), random),
         DAMAGED => {
-            let inner = *random.one(&[PROOF, PROOF, CHAIN, REFUTATION, FAULTS, STATEMENTS]);
+            let inner = *random.one(&[PROOF, PROOF, CHAIN, REFUTATION, FAULTS, STATEMENTS, POL, POL, POL]);
             let whole = of_kind(inner, random);
             return damage::damaged(&whole, random);
         }
         _ => (),
     }
-    let mut maker = Maker::new(random);
+    let mut maker = if kind == POL { Maker::with_names(random, &pols::POOL) } else { Maker::new(random) };
     fill(kind, &mut maker);
     maker.text()
 }
@@ -129,6 +138,11 @@ fn fill(kind: usize, maker: &mut Maker) {
             maker.faults(steps);
         }
         STATEMENTS => maker.statements(),
+        POL if maker.random.chance(12) => maker.pol_refutation(),
+        POL => {
+            let lines = *maker.random.one(&[1, 1, 2, 2, 3, 4, 6, 12]);
+            maker.pols(lines, 25);
+        }
         _ => {
             let steps = 20 + maker.random.below(100);
             maker.proof(steps, 20);

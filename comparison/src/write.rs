@@ -4,6 +4,13 @@ use crate::random::Random;
 use crate::rules::Rule;
 use crate::term::{Apply, Name, Number, Term};
 
+/// A word of a pol line, or a few: a pushed command by its number, or as it is written.
+#[derive(Clone)]
+pub enum PolWord {
+    Line(usize),
+    Word(String),
+}
+
 /// A command; premises are numbers of commands.
 #[derive(Clone)]
 pub struct Command {
@@ -12,6 +19,8 @@ pub struct Command {
     pub clause: Vec<Term>,
     pub premises: Vec<usize>,
     pub arguments: Vec<Term>,
+    /// The words of a pol line, whose clause is what is foreseen of it.
+    pub words: Vec<PolWord>,
     /// Whether it was changed after it had been made to be accepted.
     pub missed: bool,
     /// Whether it stands in the OPB text, as a constraint.
@@ -120,16 +129,29 @@ impl Writer<'_> {
 
     fn command(&mut self, command: &Command, commands: &[Command]) {
         self.open();
-        if command.rule == Rule::Assume {
-            self.word("assume");
-            self.word(&command.id);
-            command.clause.iter().for_each(|term| self.term(term));
-        } else {
-            self.step(command, commands);
+        match command.rule {
+            Rule::Assume => {
+                self.word("assume");
+                self.word(&command.id);
+                command.clause.iter().for_each(|term| self.term(term));
+            }
+            Rule::Pol => self.pol(command, commands),
+            _ => self.step(command, commands),
         }
         self.close();
         if self.layout == Layout::Usual {
             self.text.push(b'\n');
+        }
+    }
+
+    fn pol(&mut self, command: &Command, commands: &[Command]) {
+        self.word("pol");
+        self.word(&command.id);
+        for word in &command.words {
+            match word {
+                PolWord::Line(number) => self.word(&commands[*number].id),
+                PolWord::Word(words) => words.split(' ').for_each(|word| self.word(word)),
+            }
         }
     }
 

@@ -35,6 +35,25 @@ pub fn answer(pool: &mut Pool, command: &Command, above: &[Command]) -> u8 {
         Rule::Normalize => normalization(pool, step),
         Rule::Transfer => transfer(step),
         Rule::Part => part(step),
+        Rule::Pol => unreachable!("a pol line has its answer from its words"),
+    }
+}
+
+/// The answer of a rule that reads the sums of one or two inequalities, as if a step of that rule stood in the text.
+pub(crate) fn answer_of_sums(
+    pool: &mut Pool,
+    rule: Rule,
+    premises: &[&[Rc<Term>]],
+    args: &[Rc<Term>],
+    conclusion: &[Rc<Term>],
+) -> u8 {
+    let premises: Vec<Premise> = premises.iter().map(|clause| Premise { clause }).collect();
+    let step = Step { premises: &premises, args, conclusion };
+    match rule {
+        Rule::Addition => inequalities(pool, step, original::cp_addition),
+        Rule::Multiplication => inequalities(pool, step, original::cp_multiplication),
+        Rule::Division => inequalities(pool, step, original::cp_division),
+        _ => inequalities(pool, step, original::cp_saturation),
     }
 }
 

@@ -2,8 +2,8 @@
 //!
 //! The six rules are the original's own source, taken at build time, with document 01's number put at each failing check
 //! (`build.rs`) and nothing else changed. The modules [`ast`], [`checker`] and [`rug`] stand in for what it takes from Carcara. The
-//! reader, the answers 40 and 41, the marks and the report are an account of document 01 of their own, and the reader of OPB texts one of
-//! document 02's No. 1.
+//! reader, the answers 40 and 41, the marks and the report are an account of document 01 of their own, the reader of OPB texts one of
+//! document 02's No. 1, and pol lines one of its No. 2, in which the original judges what each word gives.
 //!
 //! ```
 //! let report = oracle::report(b"(assume a (>= 0 1))");
@@ -20,12 +20,13 @@ pub mod rug;
 mod answer;
 mod marks;
 mod opb;
+mod pol;
 mod reader;
 mod report;
 
 pub use ast::{Pool, Rc, Term};
 pub use opb::{Constraint, Relation, Summand, read_opb};
-pub use reader::{Command, Refusal, Rule, read};
+pub use reader::{Command, Refusal, Rule, Word, read};
 pub use report::{Account, Line, account, account_both, report, report_both};
 
 /// Whether the package was built with the original. Without it the six rules answer [`NO_ANSWER`].

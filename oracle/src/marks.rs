@@ -12,7 +12,7 @@ pub fn is_plain(command: &Command, above: &[Command]) -> bool {
     let premise = |place: usize| &above[command.premises[place]].clause[0];
     let conclusion = || &command.clause[0];
     match command.rule {
-        Rule::Assume | Rule::Literal | Rule::Transfer | Rule::Part => true,
+        Rule::Assume | Rule::Literal | Rule::Transfer | Rule::Part | Rule::Pol => true,
         Rule::Multiplication | Rule::Division | Rule::Saturation => has_names(premise(0)) && has_names(conclusion()),
         Rule::Addition => {
             let (left, right, conclusion) = (premise(0), premise(1), conclusion());
@@ -23,10 +23,10 @@ pub fn is_plain(command: &Command, above: &[Command]) -> bool {
 }
 
 /// A literal: a variable, and whether it is negated.
-type Literal<'t> = (&'t Rc<Term>, bool);
+pub(crate) type Literal<'t> = (&'t Rc<Term>, bool);
 
 /// The literals of an inequality that was accepted, with their coefficients. A lone 0 has none.
-fn literals(inequality: &Rc<Term>) -> impl Iterator<Item = (Literal<'_>, Integer)> {
+pub(crate) fn literals(inequality: &Rc<Term>) -> impl Iterator<Item = (Literal<'_>, Integer)> {
     let (sum, _) = match_term!((>= sum constant) = inequality).expect("the rule has read an inequality");
     summands(sum).iter().filter_map(|summand| {
         let (coefficient, literal) = match_term!((* coefficient literal) = summand)?;
@@ -39,7 +39,7 @@ fn literals(inequality: &Rc<Term>) -> impl Iterator<Item = (Literal<'_>, Integer
 }
 
 /// Whether each term in a variable's place of an inequality is a name.
-fn has_names(inequality: &Rc<Term>) -> bool {
+pub(crate) fn has_names(inequality: &Rc<Term>) -> bool {
     literals(inequality).all(|((var, _), _)| var.is_var())
 }
 

@@ -226,7 +226,7 @@ pub(crate) fn assumptions(pool: &mut Pool, constraints: &[Constraint]) -> Vec<Co
         for sign in signs {
             let id = format!("c{}", commands.len() + 1);
             let clause = vec![inequality(pool, constraint, *sign)];
-            commands.push(Command { id, rule: Rule::Assume, clause, premises: vec![], args: vec![] });
+            commands.push(Command { id, rule: Rule::Assume, clause, premises: vec![], args: vec![], words: vec![] });
         }
     }
     commands

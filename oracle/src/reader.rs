@@ -1,4 +1,4 @@
-//! The reader of document 01, section 1: a text's commands, or the leftmost offence.
+//! The reader of document 01, section 1, with the pol lines of document 02, No. 2: a text's commands, or the leftmost offence.
 //!
 //! It takes one token at a time and judges each before it looks at the next, so the first offence that it meets is the leftmost. At one
 //! token the order is by number: the word itself (3, 4, 5), the grammar (6), the limits (7), ids and rules (8).
@@ -16,6 +16,8 @@ const MOST_DEPTH: usize = 64;
 pub(crate) const MOST_COMMANDS: usize = 512;
 /// The longest name.
 pub(crate) const MOST_NAME: usize = 32;
+/// The most pol lines of a text.
+const MOST_POL_LINES: usize = 64;
 /// The most digits of a numeral: 99999999 is the largest.
 const MOST_DIGITS: usize = 8;
 
@@ -49,6 +51,8 @@ pub enum Rule {
     Transfer,
     /// `cp_part`
     Part,
+    /// `pol`, which is a command of its own and no rule of steps
+    Pol,
 }
 
 impl Rule {
@@ -76,6 +80,7 @@ impl Rule {
             Rule::Normalize => "cp_normalize",
             Rule::Transfer => "cp_transfer",
             Rule::Part => "cp_part",
+            Rule::Pol => "pol",
         }
     }
 
@@ -85,6 +90,23 @@ impl Rule {
     }
 }
 
+/// A word of a pol line, a numeral together with its `*` or `d`.
+#[derive(Debug, Clone, PartialEq, Eq)]
+pub enum Word {
+    /// The inequality of a command above, by its place in the text.
+    Line(usize),
+    /// The axiom of a literal: the variable's name, and whether it is `~x`.
+    Axiom(String, bool),
+    /// `+`
+    Add,
+    /// A numeral and `*`.
+    Multiply(i32),
+    /// A numeral and `d`.
+    Divide(i32),
+    /// `s`
+    Saturate,
+}
+
 /// A command. An assumption's term counts as its clause.
 #[derive(Debug, Clone)]
 pub struct Command {
@@ -92,12 +114,14 @@ pub struct Command {
     pub id: String,
     /// Its rule.
     pub rule: Rule,
-    /// Its clause.
+    /// Its clause. A pol line has none when it is read: [`crate::account`] puts there what the line derives.
     pub clause: Vec<Rc<Term>>,
-    /// The commands above that it cites, by their place in the text.
+    /// The commands above that it cites, by their place in the text; of a pol line those that it pushes.
     pub premises: Vec<usize>,
     /// Its arguments.
     pub args: Vec<Rc<Term>>,
+    /// The words of a pol line.
+    pub words: Vec<Word>,
 }
 
 /// Reads a text into commands whose terms are in the pool.
@@ -111,7 +135,7 @@ pub(crate) fn read_behind(pool: &mut Pool, before: &[Command], nodes: usize, tex
         return Err(Refusal { number: 2, byte: MOST_BYTES });
     }
     let ids = before.iter().enumerate().map(|(place, command)| (command.id.as_str(), place)).collect();
-    Reader { tokens: Tokens { text, next: 0 }, pool, nodes, ids, variables: HashMap::new() }.file(before.to_vec())
+    Reader { tokens: Tokens { text, next: 0 }, pool, nodes, ids, pol_lines: 0, variables: HashMap::new() }.file(before.to_vec())
 }
 
 /// A token and where it begins.
@@ -135,6 +159,8 @@ enum Kind<'t> {
     Premises,
     Args,
     Name(&'t str),
+    /// `~x`, which only the words of a pol line may be.
+    Negated(&'t str),
     End,
 }
 
@@ -154,6 +180,12 @@ struct Tokens<'t> {
 impl<'t> Tokens<'t> {
     /// Takes the next token, or refuses it by itself: 3, 4 or 5.
     fn take(&mut self) -> Result<Token<'t>, Refusal> {
+        let token = self.take_in_pol()?;
+        if matches!(token.kind, Kind::Negated(_)) { token.refused(5) } else { Ok(token) }
+    }
+
+    /// The same in a pol line behind its id, where `~x` is a word.
+    fn take_in_pol(&mut self) -> Result<Token<'t>, Refusal> {
         let rest = &self.text[self.next..];
         let blanks = rest.iter().take_while(|byte| is_blank(**byte)).count();
         let rest = &rest[blanks..];
@@ -207,8 +239,20 @@ fn word(word: &[u8]) -> Result<Kind<'_>, u8> {
         b":rule" => Kind::Rule,
         b":premises" => Kind::Premises,
         b":args" => Kind::Args,
+        [b'~', rest @ ..] => Kind::Negated(negated(rest).ok_or(5)?),
         _ => Kind::Name(name(word).ok_or(5)?),
     })
+}
+
+/// The name behind a `~`: what is a name where it stands alone.
+fn negated(rest: &[u8]) -> Option<&str> {
+    match rest {
+        [] => None,
+        _ => match word(rest) {
+            Ok(Kind::Name(name)) => Some(name),
+            _ => None,
+        },
+    }
 }
 
 /// A digit first, or next after a leading `-`.
@@ -242,6 +286,7 @@ struct Reader<'t, 'p> {
     tokens: Tokens<'t>,
     pool: &'p mut Pool,
     nodes: usize,
+    pol_lines: usize,
     /// The commands above by their ids.
     ids: HashMap<&'t str, usize>,
     /// The variables by their names.
@@ -265,16 +310,57 @@ impl<'t> Reader<'t, '_> {
     /// A command behind its bracket. Its id is known only to those below it.
     fn command(&mut self, place: usize) -> Result<Command, Refusal> {
         let head = self.tokens.take()?;
-        if !matches!(head.kind, Kind::Assume | Kind::Step) {
-            return head.refused(6);
+        match head.kind {
+            Kind::Assume | Kind::Step => (),
+            Kind::Name("pol") if self.pol_lines == MOST_POL_LINES => return head.refused(7),
+            Kind::Name("pol") => self.pol_lines += 1,
+            _ => return head.refused(6),
         }
         let id = self.new_id()?;
         let command = match head.kind {
             Kind::Assume => self.assumption(id)?,
-            _ => self.step(id)?,
+            Kind::Step => self.step(id)?,
+            _ => self.pol(id)?,
         };
         self.ids.insert(id, place);
         Ok(command)
+    }
+
+    /// A pol line behind its id: at least one word. Its words are no nodes.
+    fn pol(&mut self, id: &str) -> Result<Command, Refusal> {
+        let mut words = Vec::new();
+        loop {
+            let token = self.tokens.take_in_pol()?;
+            if token.kind == Kind::Close && !words.is_empty() {
+                break;
+            }
+            words.push(self.pol_word(token)?);
+        }
+        let line = |word: &Word| if let Word::Line(place) = word { Some(*place) } else { None };
+        let premises = words.iter().filter_map(line).collect();
+        Ok(Command { id: id.into(), rule: Rule::Pol, clause: vec![], premises, args: vec![], words })
+    }
+
+    /// The word of a pol line that a token begins. `d` and `s` are operations, whatever ids there are.
+    fn pol_word(&mut self, token: Token<'t>) -> Result<Word, Refusal> {
+        match token.kind {
+            Kind::Operator(Operator::Add) => Ok(Word::Add),
+            Kind::Name("s") => Ok(Word::Saturate),
+            Kind::Numeral(value) => {
+                let behind = self.tokens.take_in_pol()?;
+                match behind.kind {
+                    Kind::Operator(Operator::Mult) => Ok(Word::Multiply(value)),
+                    Kind::Name("d") => Ok(Word::Divide(value)),
+                    _ => behind.refused(6),
+                }
+            }
+            Kind::Name(name) if name != "d" => {
+                let axiom = || Word::Axiom(name.into(), false);
+                Ok(self.ids.get(name).map_or_else(axiom, |place| Word::Line(*place)))
+            }
+            Kind::Negated(name) => Ok(Word::Axiom(name.into(), true)),
+            _ => token.refused(6),
+        }
     }
 
     /// An assumption behind its id.
@@ -282,7 +368,7 @@ impl<'t> Reader<'t, '_> {
         let first = self.tokens.take()?;
         let clause = vec![self.term(first, 1)?];
         self.expect(Kind::Close)?;
-        Ok(Command { id: id.into(), rule: Rule::Assume, clause, premises: vec![], args: vec![] })
+        Ok(Command { id: id.into(), rule: Rule::Assume, clause, premises: vec![], args: vec![], words: vec![] })
     }
 
     /// A step behind its id.
@@ -305,7 +391,7 @@ impl<'t> Reader<'t, '_> {
             token = self.tokens.take()?;
         }
         match token.kind {
-            Kind::Close => Ok(Command { id: id.into(), rule, clause, premises, args }),
+            Kind::Close => Ok(Command { id: id.into(), rule, clause, premises, args, words: vec![] }),
             _ => token.refused(6),
         }
     }
@@ -481,6 +567,38 @@ mod tests {
         assert_eq!(refusal("(step t (cl) :rule foo)"), Some((8, 19)));
         assert_eq!(refusal("(assume a x) (assume a y)"), Some((8, 21)));
         assert_eq!(refusal("(step t (cl) :rule cp_literal :premises (t))"), Some((8, 41)));
+    }
+
+    #[test]
+    fn pol_lines() {
+        for good in ["x", "~x +", "x 3 *", "x 3 d", "s", "p", "~d ~s ~pol", "x y z + + s s", "a ~a +", "cp_part", "-1 *"] {
+            assert_eq!(refusal(&format!("(assume a x)(pol p {good})")), None, "{good}");
+        }
+        let at = |words: &str| refusal(&format!("(pol p {words}"));
+        assert_eq!(at(")"), Some((6, 7)));
+        assert_eq!(at("x"), Some((6, 8)));
+        for word in ["d", "*", "-", ">=", "and", "cl", "assume", ":rule", "("] {
+            assert_eq!(at(&format!("x {word} )")), Some((6, 9)), "{word}");
+        }
+        for word in ["s", "+", "~x", "x", ")", "3", "-", ">=", "and", "cl", "assume", ":rule", "("] {
+            assert_eq!(at(&format!("x 3 {word} )")), Some((6, 11)), "{word}");
+        }
+        for (word, number) in [("~", 5), ("~cl", 5), ("~5", 5), ("~+", 5), ("~~x", 5), ("~and", 5), ("007", 4), (";", 5)] {
+            assert_eq!(at(&format!("x {word} )")), Some((number, 9)), "{word}");
+            assert_eq!(at(&format!("x 3 {word} )")), Some((number, 11)), "{word}");
+        }
+        assert_eq!(at(&format!("~{} )", "x".repeat(32))), None);
+        assert_eq!(at(&format!("~{} )", "x".repeat(33))), Some((5, 7)));
+        assert_eq!(refusal("(pol ~p x)"), Some((5, 5)));
+        assert_eq!(refusal("(pol p x)(pol p x)"), Some((8, 14)));
+        assert_eq!(refusal("(pol p p)(pol d d 2)"), Some((6, 16)));
+        assert_eq!(refusal("(~pol p x)"), Some((5, 1)));
+        assert_eq!(refusal("(assume a ~x)"), Some((5, 10)));
+        assert_eq!(refusal("(step t (cl) :rule pol)"), Some((8, 19)));
+        let lines = |count: usize| (0..count).map(|i| format!("(pol p{i} x)")).collect::<String>();
+        assert_eq!(refusal(&lines(64)), None);
+        assert_eq!(refusal(&(lines(64) + "(pol p0 x)")), Some((7, lines(64).len() + 1)));
+        assert_eq!(refusal(&(lines(64) + "(pol")), Some((7, lines(64).len() + 1)));
     }
 
     #[test]

@@ -4,6 +4,7 @@ use crate::answer::{ACCEPTED, answer};
 use crate::ast::Pool;
 use crate::marks::{is_contradiction, is_plain, is_statement};
 use crate::opb::{Constraint, assumptions, read_opb};
+use crate::pol::derived;
 use crate::reader::{Command, Refusal, Rule, read_behind};
 use std::fmt::Write;
 
@@ -40,10 +41,14 @@ pub fn account_both(opb: &[u8], text: &[u8]) -> Result<Account, Refusal> {
     let mut pool = Pool::new();
     let before = assumptions(&mut pool, &constraints);
     let nodes = constraints.iter().map(Constraint::nodes).sum();
-    let commands = read_behind(&mut pool, &before, nodes, text)?;
+    let mut commands = read_behind(&mut pool, &before, nodes, text)?;
     let mut lines = Vec::with_capacity(commands.len());
-    for (place, command) in commands.iter().enumerate() {
-        let line = line(&mut pool, command, &commands[..place], &lines);
+    for place in 0..commands.len() {
+        let (above, rest) = commands.split_at_mut(place);
+        let line = match rest[0].rule {
+            Rule::Pol => pol_line(&mut pool, &mut rest[0], above, &lines),
+            _ => line(&mut pool, &rest[0], above, &lines),
+        };
         lines.push(line);
     }
     let refuted = commands.iter().zip(&lines).any(|(command, line)| line.holds && is_contradiction(&command.clause));
@@ -59,6 +64,17 @@ fn line(pool: &mut Pool, command: &Command, above: &[Command], lines: &[Line]) -
         _ => plain && command.premises.iter().all(|place| lines[*place].holds),
     };
     Line { answer, plain, holds }
+}
+
+/// What is said of a pol line, which gets the clause that it derives; a refused one keeps its clause of no terms.
+fn pol_line(pool: &mut Pool, command: &mut Command, above: &[Command], lines: &[Line]) -> Line {
+    match derived(pool, &command.words, above) {
+        Ok(inequality) => {
+            command.clause = vec![inequality];
+            Line { answer: ACCEPTED, plain: true, holds: command.premises.iter().all(|place| lines[*place].holds) }
+        }
+        Err(answer) => Line { answer, plain: false, holds: false },
+    }
 }
 
 /// The report of a text, for a caller with room enough for it: refusal 1 is not given here.

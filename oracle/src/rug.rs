@@ -15,6 +15,17 @@ impl Integer {
     pub fn to_usize(&self) -> Option<usize> {
         self.0.try_into().ok()
     }
+
+    /// The value as an `i64`, if it is one.
+    pub fn to_i64(&self) -> Option<i64> {
+        self.0.try_into().ok()
+    }
+}
+
+impl From<i64> for Integer {
+    fn from(value: i64) -> Self {
+        Self(value.into())
+    }
 }
 
 impl From<i32> for Integer {

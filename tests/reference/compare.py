@@ -1,7 +1,7 @@
 """compare.py [COUNT] [SEED]
 
-Compares the formal definitions with the reference by computation, on the examples of document 01 and
-COUNT generated texts. Each text becomes a theorem, `reportOf text ≡ the reference's report`, proved by
+Compares the formal definitions with the reference by computation, on the examples of documents 01 and 02,
+COUNT generated texts and a fifth as many of pol lines. Each text becomes a theorem, `reportOf text ≡ the reference's report`, proved by
 computing both sides, in a temporary repository that holds copies of the crates, proved already where
 target/ has them so: rt goes by their bytes. Prints what was compared and each text that differs, or
 whose computation ended without a verdict (a text of several thousand bytes can be too long for the
@@ -19,6 +19,7 @@ sys.dont_write_bytecode = True
 
 from examples import examples
 from generate import texts
+from pol_texts import pol_texts
 from reference import report
 
 ROOT = os.path.join(os.path.dirname(os.path.abspath(__file__)), "..", "..")
@@ -110,9 +111,10 @@ def main():
     count = int(sys.argv[1]) if len(sys.argv) > 1 else 200
     seed = int(sys.argv[2]) if len(sys.argv) > 2 else 1
     check_examples()
-    compared = [text for text, _ in examples()] + texts(seed, count)
+    given = [text for text, _ in examples()]
+    compared = given + texts(seed, count) + pol_texts(seed, count // 5)
     reports = [report(text) for text in compared]
-    print("%d texts, %d of them examples, seed %d" % (len(compared), len(compared) - count, seed))
+    print("%d texts, %d of them examples, seed %d" % (len(compared), len(given), seed))
     print_coverage(reports)
     with tempfile.TemporaryDirectory() as folder:
         write_repository(folder, theorems(compared, reports))

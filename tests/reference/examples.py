@@ -1,4 +1,4 @@
-"""The examples of document 01 and of its readings, each with what the document says of it.
+"""The examples of document 01, of pol lines in document 02, and of their readings, each with what the document says of it.
 
 `examples()` gives pairs of a text and a part of its report. A step's example is a text of its premises
 and the step as the last command.
@@ -206,6 +206,39 @@ FILES = (
 )
 
 
+# Document 02, No. 2: the words of a pol line behind two assumptions, and what its line has.
+POLS = (
+    ("a b +", "answer=0 plain=yes holds=yes"),
+    ("a b + 3 d x7 2 * + s", "answer=0 plain=yes holds=yes"),
+    ("~p p +", "answer=0 plain=yes holds=yes"),
+    ("r", "answer=0 plain=yes holds=no"),
+    ("+", "answer=52 plain=no"),
+    ("a +", "answer=52 plain=no"),
+    ("a b", "answer=52 plain=no"),
+    ("-1 *", "answer=52 plain=no"),
+    ("a 99999999 *", "answer=53 plain=no"),
+    ("w", "answer=53 plain=no"),
+    ("a 0 d", "answer=54 plain=no"),
+    ("a -1 *", "answer=54 plain=no"),
+    ("n s", "answer=54 plain=no"),
+    ("o", "answer=54 plain=no"),
+    ("e", "answer=54 plain=no"),
+    ("x " * 33, "answer=52 plain=no"),
+    ("x " * 32 + "+ " * 31, "answer=0 plain=yes holds=yes"),
+)
+POL_GIVEN = (
+    "(assume a (>= (+ (* 3 x) (* 2 (- 1 y))) 4))(assume b (>= (* 2 (- 1 x)) 1))(assume n (>= (* -1 x) 0))(assume o (>= x 0))"
+    "(assume w (>= (+ (* 99999999 x) (* 1 x)) 0))(pol e +)(step r (cl (>= (* 1 x) 1)) :rule cp_saturation :premises (a))")
+POL_FILES = (
+    (b"(pol p)", "refused=6 byte=6\n"), (b"(pol p x 2)", "refused=6 byte=10\n"), (b"(pol p x d)", "refused=6 byte=9\n"), (b"(pol p * x)", "refused=6 byte=7\n"),
+    (b"(pol ~p x)", "refused=5 byte=5\n"), (b"(pol p ~cl)", "refused=5 byte=7\n"), (b"(pol p ~5)", "refused=5 byte=7\n"), (b"(pol p ~d 2 d s)", "rule=pol answer=0 plain=yes holds=yes\n"),
+    (b"(pol p x)(pol p x)", "refused=8 byte=14\n"), (b"(assume a ~x)", "refused=5 byte=10\n"), (b"(step t (cl) :rule pol)", "refused=8 byte=19\n"),
+    (b"(assume a (>= (* 1 x) 1))(assume b (>= (* 1 (- 1 x)) 1))(pol p a b +)", "refuted=yes\n"),
+    (b"(assume a (>= (* 2 x) 1))(pol p a)(step s (cl (>= (* 1 x) 1)) :rule cp_division :premises (p) :args (2))", "id=s rule=cp_division answer=0 plain=yes holds=yes\n"),
+    (b"(pol p +)(step s (cl (>= 0 0)) :rule cp_saturation :premises (p))", "id=s rule=cp_saturation answer=21 plain=no holds=no\n"),
+)
+
+
 def step_text(rule, premises, conclusion, arguments):
     """A text of the premises and the step; a premise without a term is a step with an empty clause."""
     names = ["p%d" % place for place in range(len(premises))]
@@ -221,4 +254,5 @@ def step_text(rule, premises, conclusion, arguments):
 def examples():
     """Pairs of a text and a part of its report."""
     steps = TABLE + STEPS_TO_TRY + ORDER + READ_STEPS + MARKS
-    return list(FILES) + [(step_text(*step[:4]), "id=s rule=%s %s" % (step[0], step[4])) for step in steps]
+    pols = [("%s(pol p %s)" % (POL_GIVEN, words), "id=p rule=pol %s" % line) for words, line in POLS]
+    return list(FILES) + list(POL_FILES) + [(text.encode("ascii"), line) for text, line in pols] + [(step_text(*step[:4]), "id=s rule=%s %s" % (step[0], step[4])) for step in steps]

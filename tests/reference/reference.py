@@ -1,7 +1,8 @@
-"""The report of a text as document 01 gives it, written from that document and the Rust alone.
+"""The report of a text as document 01 gives it, written from that document and the Rust alone, with the pol lines of
+document 02, No. 2.
 
 Nothing here was taken from the formal definitions: `compare.py` holds the two side by side. The
-comments name the sections of document 01. Refusals 2 to 8 and answers 20 to 41 are exceptions that
+comments name the sections of document 01. Refusals 2 to 8 and answers 20 to 41 and 52 to 54 are exceptions that
 carry the number; refusal 1 concerns buffers and has no place here.
 
 A term is a Python integer (numeral), a string (variable) or an `Application`.
@@ -18,6 +19,11 @@ MAX_DEPTH = 64
 MAX_COMMANDS = 512
 MAX_SUMMANDS = 512
 MAX_LEAVES = 512
+
+# Limits of pol lines (document 02, No. 2).
+MAX_POL_LINES = 64
+MAX_STACK = 32
+MAX_LITERALS = 64
 
 # Refusals that concern the file.
 TEXT_TOO_LONG = 2
@@ -53,11 +59,17 @@ LISTS_DIFFER = 39
 TOO_MANY_SUMMANDS = 40
 LINK_DOES_NOT_MATCH = 41
 
+# Answers that concern a pol line.
+WRONG_STACK = 52
+BEYOND_RANGE = 53
+NO_INEQUALITY_OR_SIGN = 54
+
 Application = namedtuple("Application", "operator arguments")
 Command = namedtuple("Command", "id rule clause premises arguments")
 Token = namedtuple("Token", "kind word offset end")
 Entry = namedtuple("Entry", "coefficient variable negated")
 Line = namedtuple("Line", "command answer plain holds")
+PolWord = namedtuple("PolWord", "kind value offset end")
 
 
 class Refusal(Exception):
@@ -95,9 +107,9 @@ RESERVED = (b"cl", b"assume", b"step")
 KEYWORDS = (b":rule", b":premises", b":args")
 
 # Kinds of tokens. A bracket, reserved word or keyword is its own kind.
-END, BYTE, MALFORMED, UNKNOWN, NUMERAL, OPERATOR, NAME = (
-    "end", "bad byte", "malformed numeral", "word of no kind", "numeral", "operator", "name")
-OFFENCES = {BYTE: BAD_BYTE, MALFORMED: BAD_NUMERAL, UNKNOWN: WORD_OF_NO_KIND}
+END, BYTE, MALFORMED, UNKNOWN, NUMERAL, OPERATOR, NAME, NEGATED = (
+    "end", "bad byte", "malformed numeral", "word of no kind", "numeral", "operator", "name", "negated name")
+OFFENCES = {BYTE: BAD_BYTE, MALFORMED: BAD_NUMERAL, UNKNOWN: WORD_OF_NO_KIND, NEGATED: WORD_OF_NO_KIND}
 
 
 def is_bad(byte):
@@ -129,6 +141,8 @@ def word_kind(word):
         return OPERATOR
     if word in RESERVED or word in KEYWORDS:
         return word.decode("ascii")
+    if word[0:1] == b"~":
+        return NEGATED if word[1:] and word_kind(word[1:]) == NAME else UNKNOWN
     well_formed = word[0] in NAME_STARTS and all(byte in NAME_BYTES for byte in word)
     return NAME if well_formed and len(word) <= MAX_NAME_BYTES else UNKNOWN
 
@@ -167,16 +181,17 @@ class Reader:
         self.before = list(before)
         self.nodes = sum(count_nodes(term) for command in before for term in command.clause)
         self.ids = {command.id for command in before}
+        self.pol_lines = 0
 
-    def peek(self):
-        """The token at hand, refused when it is a bad byte or a bad word."""
-        if self.token.kind in OFFENCES:
+    def peek(self, known=()):
+        """The token at hand, refused when it is a bad byte or a bad word, unless its kind is known here."""
+        if self.token.kind in OFFENCES and self.token.kind not in known:
             raise Refusal(OFFENCES[self.token.kind], self.token.offset)
         return self.token
 
-    def take(self, *kinds):
+    def take(self, *kinds, known=()):
         """The token at hand, which has to be of one of the kinds; the next one is at hand then."""
-        token = self.peek()
+        token = self.peek(known)
         if token.kind not in kinds:
             raise Refusal(GRAMMAR_BROKEN, token.offset)
         self.token = token_at(self.text, token.end)
@@ -199,14 +214,51 @@ class Reader:
         return commands
 
     def command(self):
-        """An assumption or a step, after its `(`."""
-        if self.take("assume", "step").kind == "assume":
+        """An assumption, a step or a pol line, after its `(`."""
+        head = self.take("assume", "step", NAME)
+        if head.kind == "assume":
             command = Command(self.new_id(), "assume", [self.term(1)], [], [])
             self.take(")")
-        else:
+        elif head.kind == "step":
             command = self.step()
+        else:
+            command = self.pol(head)
         self.ids.add(command.id)
         return command
+
+    def pol(self, head):
+        """ID word+) after `pol`, which is not reserved; a 65th is 7 at that word. Nothing in it is a node."""
+        if head.word != "pol":
+            raise Refusal(GRAMMAR_BROKEN, head.offset)
+        if self.pol_lines == MAX_POL_LINES:
+            raise Refusal(OVER_LIMIT, head.offset)
+        self.pol_lines += 1
+        name = self.new_id()
+        words = [self.pol_word()]
+        while self.peek((NEGATED,)).kind != ")":
+            words.append(self.pol_word())
+        self.take(")")
+        return Command(name, "pol", [], [word.value for word in words if word.kind == PUSH], words)
+
+    def pol_word(self):
+        """One word of a pol line; `d` and `s` are always operations, and so no ids."""
+        token = self.take(NUMERAL, NAME, NEGATED, OPERATOR, known=(NEGATED,))
+        if token.kind == NUMERAL:
+            return self.pol_factor(token)
+        if token.kind == NEGATED:
+            return PolWord(NEGATED_AXIOM, token.word[1:], token.offset, token.end)
+        if token.word in ("+", "s"):
+            return PolWord(token.word, None, token.offset, token.end)
+        if token.kind == OPERATOR or token.word == "d":
+            raise Refusal(GRAMMAR_BROKEN, token.offset)
+        return PolWord(PUSH if token.word in self.ids else AXIOM, token.word, token.offset, token.end)
+
+    def pol_factor(self, numeral):
+        """`*` or `d` behind a numeral, else 6 at that token."""
+        token = self.take(NAME, OPERATOR, known=(NEGATED,))
+        if token.word not in ("*", "d"):
+            raise Refusal(GRAMMAR_BROKEN, token.offset)
+        return PolWord(token.word, int(numeral.word), numeral.offset, token.end)
 
     def step(self):
         """ID (cl term*) :rule R [:premises (ID+)] [:args (term+)]) after `step`."""
@@ -731,6 +783,106 @@ RULES = {
 }
 
 
+# ---------------------------------------------------------------- pol lines (document 02, No. 2)
+#
+# An entry of the stack is a sum and a constant, as section 2 reads them. The kinds of a line's words are its operations
+# `+`, `s`, `*` and `d`, the last two with their numeral, and three pushes.
+
+PUSH, AXIOM, NEGATED_AXIOM = "push", "axiom", "negated axiom"
+
+
+def pushed_inequality(clause):
+    """The inequality of an id: one, over names, that section 2 reads; else 54."""
+    check(len(clause) == 1, NO_INEQUALITY_OR_SIGN)
+    try:
+        pbsum, constant = unwrap_pseudoboolean_inequality(clause[0])
+    except Refused:
+        raise Refused(NO_INEQUALITY_OR_SIGN)
+    check(all_names(pbsum), NO_INEQUALITY_OR_SIGN)
+    return pbsum, constant
+
+
+def pushed(word, clauses):
+    """What a push puts on the stack: an id's inequality, or the axiom of a literal."""
+    if word.kind == PUSH:
+        return pushed_inequality(clauses[word.value])
+    return {(word.value, word.kind == NEGATED_AXIOM): 1}, 0
+
+
+def added(left, right):
+    """`+`: both sums together, reduced; the slack goes from the constants."""
+    reduced, slack = reduce_pbsum(add_pbsums(left[0], right[0]))
+    return reduced, left[1] + right[1] - slack
+
+
+def each_number(inequality, change):
+    """The inequality with each number changed; zeros stay."""
+    pbsum, constant = inequality
+    return {literal: change(coefficient) for literal, coefficient in pbsum.items()}, change(constant)
+
+
+def worked_on(word, top):
+    """`*`, `d` and `s` by the rules of section 3; a sign check that fails is 54, a zero divisor too."""
+    if word.kind == "*":
+        check(word.value >= 0, NO_INEQUALITY_OR_SIGN)
+        return each_number(top, lambda number: word.value * number)
+    if word.kind == "d":
+        check(word.value > 0, NO_INEQUALITY_OR_SIGN)
+        return each_number(top, lambda number: truncated_quotient(number + word.value - 1, word.value))
+    pbsum, constant = top
+    check(constant >= 0 and all(coefficient >= 0 for coefficient in pbsum.values()), NO_INEQUALITY_OR_SIGN)
+    return each_number(top, lambda number: min(constant, number))
+
+
+def needed(word):
+    """How many entries a word takes from the stack."""
+    return 2 if word.kind == "+" else 1 if word.kind in ("s", "*", "d") else 0
+
+
+def check_entry(entry):
+    """53: a number beyond the numeral range, or more than 64 literals, zeros counted."""
+    pbsum, constant = entry
+    check(all(abs(number) <= MAX_NUMERAL for number in (constant, *pbsum.values())), BEYOND_RANGE)
+    check(len(pbsum) <= MAX_LITERALS, BEYOND_RANGE)
+
+
+def after_word(word, stack, clauses):
+    """The stack after a word: 52, 54, 53."""
+    taken = needed(word)
+    check(len(stack) >= taken and (taken > 0 or len(stack) < MAX_STACK), WRONG_STACK)
+    if taken == 0:
+        entry = pushed(word, clauses)
+    elif taken == 1:
+        entry = worked_on(word, stack[-1])
+    else:
+        entry = added(stack[-2], stack[-1])
+    check_entry(entry)
+    return stack[:len(stack) - taken] + [entry]
+
+
+def run_pol(words, clauses):
+    """The entry that the words leave; after all of them there has to be one."""
+    stack = []
+    for word in words:
+        stack = after_word(word, stack, clauses)
+    check(len(stack) == 1, WRONG_STACK)
+    return stack[0]
+
+
+def product_term(coefficient, literal):
+    """`(* k v)` or `(* k (- 1 v))`."""
+    variable, negated = literal
+    return Application("*", (coefficient, Application("-", (1, variable)) if negated else variable))
+
+
+def inequality_term(entry):
+    """Zeros are left out and names stand in byte order, plain before negated; none is `0`, one stands bare, several under `+`."""
+    pbsum, constant = entry
+    products = [product_term(pbsum[literal], literal) for literal in sorted(pbsum) if pbsum[literal] != 0]
+    pbsum_term = Application("+", tuple(products)) if len(products) > 1 else products[0] if products else 0
+    return Application(">=", (pbsum_term, constant))
+
+
 # ---------------------------------------------------------------- marks (section 5)
 
 def is_arithmetic(term):
@@ -756,12 +908,24 @@ def line_of(command, above):
     if command.rule == "assume":
         return Line(command, ACCEPTED, True, is_statement(command.clause[0]))
     cited = [above[name] for name in command.premises]
+    if command.rule == "pol":
+        return pol_line(command, cited)
     clauses = [line.command.clause for line in cited]
     try:
         plain = RULES[command.rule](clauses, command.arguments, command.clause)
     except Refused as refused:
         return Line(command, refused.answer, False, False)
     return Line(command, ACCEPTED, plain, plain and all(line.holds for line in cited))
+
+
+def pol_line(command, cited):
+    """Answer, marks and clause of a pol line that pushes the cited lines; a refused one has a clause of no terms."""
+    clauses = {line.command.id: line.command.clause for line in cited}
+    try:
+        derived = inequality_term(run_pol(command.arguments, clauses))
+    except Refused as refused:
+        return Line(command, refused.answer, False, False)
+    return Line(command._replace(clause=[derived]), ACCEPTED, True, all(line.holds for line in cited))
 
 
 def is_refutation(line):
@@ -787,11 +951,17 @@ def written(line):
         yes_or_no(line.plain), yes_or_no(line.holds))
 
 
-def report_of(commands):
-    """The report of commands that were read, all of it bytes."""
+def lines_of(commands):
+    """The lines of commands that were read, by their ids; a line's command has the clause that the line says."""
     lines = {}
     for command in commands:
         lines[command.id] = line_of(command, lines)
+    return lines
+
+
+def report_of(commands):
+    """The report of commands that were read, all of it bytes."""
+    lines = lines_of(commands)
     refused = sum(line.answer != ACCEPTED for line in lines.values())
     totals = "commands=%d refused=%d refuted=%s\n" % (
         len(lines), refused, yes_or_no(any(map(is_refutation, lines.values()))))

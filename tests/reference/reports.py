@@ -5,8 +5,8 @@ that they are what it would make.
     reports.py --check     compares the stored vectors with what would be written
     reports.py --document PATH     also holds what `report_vectors.py` quotes to the bytes of document 01
 
-A report is written only where three accounts of it agree: the one put together by hand in `report_vectors.py` or
-`opb_vectors.py`; the independent reference's; and, for what `holds` and `refuted` claim, every 0-1 assignment of the
+A report is written only where three accounts of it agree: the one put together by hand in `report_vectors.py`,
+`opb_vectors.py` or `pol_vectors.py`; the independent reference's; and, for what `holds` and `refuted` claim, every 0-1 assignment of the
 variables (section 5, "Truth"), where there are at most ten. The solutions of an OPB text are those of its constraints.
 """
 import itertools
@@ -18,12 +18,13 @@ sys.dont_write_bytecode = True
 
 import opb
 import opb_vectors
+import pol_vectors
 import reference
 import report_vectors
 from truth import claims_are_true
 
 VECTORS = os.path.join(os.path.dirname(os.path.abspath(__file__)), "..", "vectors")
-SETS = {"reports": report_vectors.vectors, "opb": opb_vectors.vectors}
+SETS = {"reports": (report_vectors.vectors, pol_vectors.vectors), "opb": (opb_vectors.vectors, pol_vectors.pairs)}
 ENDINGS = (".opb", ".in", ".out")
 
 
@@ -36,7 +37,7 @@ def by_the_reference(vector):
 
 def made(folder):
     """All vectors of a folder, after the accounts of each report agree; the exit status says no otherwise."""
-    vectors, wrong, tried = list(SETS[folder]()), 0, 0
+    vectors, wrong, tried = [vector for vectors in SETS[folder] for vector in vectors()], 0, 0
     names = [vector.name.lower() for vector in vectors]
     if len(set(names)) != len(names):
         sys.exit("two vectors have one name: %s" % " ".join(sorted(name for name in set(names) if names.count(name) > 1)))

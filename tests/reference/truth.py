@@ -1,4 +1,6 @@
-"""What `holds` and `refuted` claim, tried under every 0-1 assignment (document 01, section 5, "Truth"; document 02, No. 1)."""
+"""What `holds` and `refuted` claim, tried under every 0-1 assignment (document 01, section 5, "Truth"; document 02, No. 1).
+
+What a pol line says is the inequality that the reference derives for it."""
 import itertools
 
 import opb as opb_texts
@@ -58,7 +60,7 @@ def claims_are_true(text, report, opb=b""):
     if report.startswith(b"refused"):
         return None
     constraints, assumptions = opb_texts.read(opb)
-    commands = reference.read(text, assumptions)
+    commands = [line.command for line in reference.lines_of(reference.read(text, assumptions)).values()]
     own = commands[len(assumptions):]
     names = opb_texts.variables(constraints).union(*(names_of(term) for command in commands for term in command.clause))
     if len(names) > MOST_VARIABLES or len(opb) + len(text) > MOST_BYTES:

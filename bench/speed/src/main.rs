@@ -1,5 +1,6 @@
 //! Times the checker's library beside the Rust (the oracle: the original's rules with a reader, marks and a report around them) on the
-//! same texts in one run; and on OPB texts, with a proof text behind them and without, also beside a plain Rust reader of these.
+//! same texts in one run; and on OPB texts, with a proof text behind them and without, also beside a plain Rust reader of these; and on pol
+//! lines, also beside a plain stack machine.
 //!
 //! Both are asked in turn, so that a change of the machine's speed meets both. A time is the least of the runs: what else the machine does
 //! only ever adds to it. Our tables are made once and not cleared between runs; what the Rust allocates is freed in its time.
@@ -7,12 +8,13 @@
 //! `--texts FOLDER` writes the texts into a folder and times nothing (bench/speed/instructions).
 
 mod opb;
+mod pol;
 mod texts;
 
 use std::hint::black_box;
 use std::time::{Duration, Instant};
 
-use texts::{Pair, Text, all, pairs, small_steps};
+use texts::{Pair, Text, all, pairs, pol_texts, small_steps};
 
 /// How long a text is timed, and in how many parts at least.
 const TIME: Duration = Duration::from_millis(600);
@@ -59,10 +61,11 @@ fn main() {
     println!("least ratio: {lowest:.2} (the Rust's time by ours: above 1 the proved checker is the faster one)");
     growth(&mut checker);
     models(&mut checker);
+    pol_lines(&mut checker);
 }
 
 /// Each text into a file of its own, in their order, and behind them the proof texts of the pairs, each with its OPB text beside it in a
-/// file whose name ends with .opb.
+/// file whose name ends with .opb, and the texts of pol lines.
 fn write_texts(folder: &std::path::Path) {
     let write = |name: String, bytes: &[u8]| std::fs::write(folder.join(name), bytes).expect("the folder takes the texts");
     let texts = all();
@@ -73,6 +76,9 @@ fn write_texts(folder: &std::path::Path) {
         let name = format!("{:02} {}", texts.len() + number, pair.name);
         write(format!("{name}.opb"), &pair.opb);
         write(name, &pair.proof);
+    }
+    for (number, text) in pol_texts().iter().enumerate() {
+        write(format!("{:02} {}", texts.len() + pairs().len() + number, text.name), &text.bytes);
     }
 }
 
@@ -115,6 +121,41 @@ fn models(checker: &mut cutting_planes::Checker) {
             pair.opb.len(),
             pair.proof.len(),
             rust / library
+        );
+    }
+}
+
+/// Pol lines beside the Rust, in which the original judges each word, and beside the plain machine, which writes the same report.
+fn pol_lines(checker: &mut cutting_planes::Checker) {
+    println!("\npol lines: beside the Rust, which judges each word by the original's rule, and beside a plain machine");
+    println!("{:<46}{:>7}{:>10}{:>10}{:>8}{:>12}{:>8}", "text", "bytes", "proved", "the Rust", "ratio", "plain Rust", "ratio");
+    for text in pol_texts() {
+        let bytes = &text.bytes[..];
+        let report = checker.check_text(bytes).to_vec();
+        assert!(report == oracle::report(bytes), "{}: the two reports differ", text.name);
+        assert!(
+            pol::report(bytes).is_some_and(|plain| plain.into_bytes() == report),
+            "{}: the plain machine's report differs",
+            text.name
+        );
+        assert!(String::from_utf8_lossy(&report).contains(" refused=0 "), "{}: a line is refused", text.name);
+        let [library, rust, plain] = in_turn([
+            &mut || {
+                black_box(checker.check_text(black_box(bytes)));
+            },
+            &mut || {
+                black_box(oracle::report(black_box(bytes)));
+            },
+            &mut || {
+                black_box(pol::report(black_box(bytes)));
+            },
+        ]);
+        println!(
+            "{:<46}{:>7}{library:>10.2}{rust:>10.2}{:>8.2}{plain:>12.2}{:>8.2}",
+            text.name,
+            bytes.len(),
+            rust / library,
+            plain / library
         );
     }
 }

@@ -186,7 +186,55 @@ fn steps_behind(bytes: usize) -> String {
     })
 }
 
-/// README's example.
+/// An assumption over so many literals from a first variable on, every third one negated.
+fn assumption(id: usize, first: usize, literals: usize) -> String {
+    let literal = |place: usize| if place % 3 == 2 { format!("(- 1 v{place})") } else { format!("v{place}") };
+    let total = sum((0..literals).map(|i| ((id + i) % 5 + 1, literal(first + i))));
+    format!("(assume a{id} (>= {total} {}))\n", id % 4 + 2)
+}
+
+/// Sixty-four pol lines over sixteen assumptions of five summands: each adds an assumption and a literal to the line before, halves and saturates.
+fn short_pol_lines() -> String {
+    let mut out: String = (0..16).map(|id| assumption(id, id, 5)).collect();
+    out += "(pol p0 a0)\n";
+    for line in 1..64 {
+        writeln!(out, "(pol p{line} p{} a{} + ~v{} + 2 d s)", line - 1, line % 16, line % 20)
+            .expect("a string takes what is written");
+    }
+    out
+}
+
+/// Sixty-four pol lines, each the sum of eight assumptions of sixty literals, divided and saturated.
+fn wide_pol_lines() -> String {
+    let mut out: String = (0..8).map(|id| assumption(id, 0, 60)).collect();
+    for line in 0..64 {
+        writeln!(out, "(pol p{line} a0 a1 + a2 + a3 + a4 + a5 + a6 + a7 + {} d s)", line % 8 + 1)
+            .expect("a string takes what is written");
+    }
+    out
+}
+
+/// One pol line of about a thousand words on a stack of 32 entries with 64 literals each: all are pushed, added up and divided, again and again.
+fn long_pol_line() -> String {
+    let mut out = assumption(0, 0, 64) + "(pol p a0";
+    for _ in 0..16 {
+        out += &" a0".repeat(31);
+        out += &" +".repeat(31);
+        out += " 32 d";
+    }
+    out + " s)\n"
+}
+
+/// Texts of pol lines.
+pub fn pol_texts() -> Vec<Text> {
+    vec![
+        text("64 pol lines of five summands", short_pol_lines()),
+        text("64 pol lines of sixty literals", wide_pol_lines()),
+        text("a pol line of 1,026 words, a stack of 32", long_pol_line()),
+    ]
+}
+
+/// An example.
 const ODD: &str = include_str!("../../../examples/opb/odd.opb");
 const ODD_PROOF: &str = include_str!("../../../examples/opb/odd.proof");
 
@@ -196,8 +244,8 @@ pub fn pairs() -> Vec<Pair> {
     let alone = |name, opb| pair(name, opb, String::new());
     vec![
         alone("two empty texts", String::new()),
-        alone("README's example, its model alone", ODD.into()),
-        pair("README's example, 3 steps", ODD.into(), ODD_PROOF.into()),
+        alone("a small model alone", ODD.into()),
+        pair("a small model, 3 steps", ODD.into(), ODD_PROOF.into()),
         alone("a model, 2 KB", model(2_048)),
         alone("a model of equalities, 2 KB", up_to(2_048, |number| small_constraint(number).opb("="))),
         alone("a model of 4,080 nodes", (0..204).map(|number| small_constraint(number).opb(">=")).collect()),

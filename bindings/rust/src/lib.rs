@@ -1,4 +1,4 @@
-//! Checks a cutting-planes proof: a text of assumptions and steps in, a report with a line for each and totals out. The constraints
+//! Checks a cutting-planes proof: a text of assumptions, steps and pol lines in, a report with a line for each and totals out. The constraints
 //! can also come from an OPB text, with the proof text behind it.
 //!
 //! The work is done by a library in which every function is proved. This wrapper lends it slices and trusts it for nothing else

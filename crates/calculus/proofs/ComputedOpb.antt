@@ -7,15 +7,15 @@ use Prim.Native.String.{String}
 use native.Mathlib.Omega.{arith}
 use lib.IntN.{pos, natAbs}
 use Rattle.calculus.specs.Bytes.{bytes}
-use Rattle.calculus.specs.Claim.{Claim, SoundBehind, linesOf}
+use Rattle.calculus.specs.Claim.{Claim, SoundBy, linesOf}
+use Rattle.calculus.specs.Clauses.{clausesOf, SoundBoth}
 use Rattle.calculus.specs.Commands.{enough, Read, whole, refused, readBehind, readFile}
 use Rattle.calculus.specs.Terms.{Command}
-use Rattle.calculus.specs.Truth.{Models, clausesOf}
+use Rattle.calculus.specs.Truth.{Models}
 use Rattle.calculus.specs.Writing.{IsReadBehind}
 use Rattle.calculus.specs.OpbWords.{plain, negated, atLeast, equal, number-word, literal-word, word, insideAt}
 use Rattle.calculus.specs.OpbWriting.{Summand, times, Constraint, compare, assumptions, HasInside, IsOpb}
 use Rattle.calculus.specs.OpbTruth.{sumValue, MakesTrue, Solves}
-use Rattle.calculus.specs.OpbClaim.{SoundBoth}
 use Rattle.calculus.specs.OpbReading.{OpbRead, constraints, refusedAt, constraintsFrom, readOpb}
 use Rattle.calculus.specs.OpbReport.{reportBoth}
 use Rattle.calculus.proofs.Computing.{computing}
@@ -251,6 +251,6 @@ equal-is-both e = omega (arith, ap natAbs e)
 
 -- the claim, written out
 pub claim-is : (o s r : List ℕ) →
-    SoundBoth o s r ≡ ((ks : List Constraint) → IsOpb o ks → (cs : List Command) → IsReadBehind (assumptions ks) s cs → Claim (λ σ. Solves σ ks × Models σ cs) (clausesOf (assumptions ks ++ cs)) (linesOf r))
-unfolding SoundBoth SoundBehind
+    SoundBoth o s r ≡ ((ks : List Constraint) (cs : List Command) → IsOpb o ks → IsReadBehind (assumptions ks) s cs → Claim (λ σ. Solves σ ks × Models σ cs) (clausesOf (assumptions ks ++ cs)) (linesOf r))
+unfolding SoundBoth SoundBy
 claim-is o s r = refl

@@ -2,12 +2,12 @@
 use mathlib.Core.Bool.{Bool, true, false, not, _&&_, _||_}
 use mathlib.Core.List.{List, [], _∷_, _++_}
 use Prim.Native.Nat.{ℕ, suc, _+_, _≤_}
-use lib.Dec.{T, leb}
+use lib.Dec.{T, leb, ltb}
 use lib.ListN.{length}
 use Rattle.calculus.specs.Bytes.{bytes}
-use Rattle.calculus.specs.Terms.{Term, Terms, num, var, app, nil, cons, listed, PolWord, line-word, plain-word, negated-word, plus-word, saturate-word, times-word, over-word, Command, assume, step, idOf, sameName}
+use Rattle.calculus.specs.Terms.{Term, Terms, num, var, app, nil, cons, listed, PolWord, line-word, plain-word, negated-word, plus-word, saturate-word, times-word, over-word, Command, assume, step, pol, idOf, sameName}
 
--- bytes of a text, nodes, levels and commands
+-- bytes of a text, nodes, levels, commands and pol lines
 abbrev pub maxText : ℕ
 maxText = 32768
 
@@ -20,6 +20,9 @@ maxDepth = 64
 abbrev pub maxCommands : ℕ
 maxCommands = 512
 
+abbrev pub maxPols : ℕ
+maxPols = 64
+
 -- a node is a numeral, a variable, an application or a cited premise
 unfoldable mutual
   pub nodes : Term → ℕ
@@ -31,10 +34,11 @@ unfoldable mutual
   nodesIn nil = 0
   nodesIn (cons t ts) = nodes t + nodesIn ts
 
--- the nodes of a command, cited premises among them
+-- the nodes of a command, cited premises among them; pol lines count none
 unfoldable pub commandNodes : Command → ℕ
 commandNodes (assume d x) = nodes x
 commandNodes (step d c r ds xs) = nodesIn (listed c) + (length ds + nodesIn (listed xs))
+commandNodes (pol d ws) = 0
 
 -- the nodes of all commands
 unfoldable pub allNodes : List Command → ℕ
@@ -68,6 +72,13 @@ unfoldable pub allKnown : List Command → List (List ℕ) → Bool
 allKnown cs [] = true
 allKnown cs (d ∷ ds) = known cs d && allKnown cs ds
 
+-- how many pol lines
+unfoldable pub polLines : List Command → ℕ
+polLines [] = 0
+polLines (assume d x ∷ cs) = polLines cs
+polLines (step d c r ds xs ∷ cs) = polLines cs
+polLines (pol d ws ∷ cs) = suc (polLines cs)
+
 -- in pol lines `d` and `s` are always operations
 unfoldable pub operand : List ℕ → Bool
 operand x = not (sameName (bytes "d") x) && not (sameName (bytes "s") x)
@@ -92,10 +103,11 @@ unfoldable pub someWord : List PolWord → Bool
 someWord [] = false
 someWord (w ∷ ws) = true
 
--- a command below the commands cs: its id is new, its premises are defined above, its terms fit
+-- a command below the commands cs: its id is new, its premises are defined above, its terms fit; a pol line is at most the 64th
 unfoldable pub allowed : List Command → Command → Bool
 allowed cs (assume d x) = not (known cs d) && fits 1 x
 allowed cs (step d c r ds xs) = not (known cs d) && (fitAll 1 (listed c) && (allKnown cs ds && fitAll 1 (listed xs)))
+allowed cs (pol d ws) = not (known cs d) && (ltb (polLines cs) maxPols && (someWord ws && allowedWords (known cs) ws))
 
 -- each of the commands ds below those before it
 unfoldable pub allowedBehind : List Command → List Command → Bool

@@ -11,6 +11,16 @@ use Rattle.calculus.specs.Terms.{add, mul, sameName, PolWord, line-word,
 use Rattle.calculus.specs.Words.{mark, operator, numeral, name, negated-name}
 use Rattle.calculus.specs.Tokens.{Token, ended, word, wrong, tokenAt}
 
+-- where the name x stands, go on with its place and behind it; else r
+unfoldable pub onNamed : {A : Type 0} → List ℕ → (ℕ → ℕ → Reads A) → Reads A → Token → Reads A
+onNamed x k r (ended p) = r
+onNamed x k r (word (mark a) p t) = r
+onNamed x k r (word (operator o) p t) = r
+onNamed x k r (word (numeral z) p t) = r
+onNamed x k r (word (name y) p t) = cond (sameName x y) (k p t) r
+onNamed x k r (word (negated-name y) p t) = r
+onNamed x k r (wrong e p) = r
+
 -- behind the numeral m, by the token: `*` or `d`, and a numeral without one of them is 6 at the next token
 unfoldable pub onFactor : ℤ → ℕ → Token → Reads PolWord
 onFactor m n (ended p) = off 6 p

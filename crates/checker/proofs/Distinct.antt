@@ -1,14 +1,14 @@
--- What the reader made of a text is a file: no two of its commands have one id, since the grammar takes an id once.
+-- What the reader made of a text: no two of its commands have one id, since the grammar takes an id once, and at most 64 are pol lines.
 use mathlib.Core.Path.{_≡_, refl, sym, ap, subst, _∙_}
 use mathlib.Core.Bool.{Bool, true, false, not, _||_}
 use mathlib.Core.List.{List, [], _∷_, _++_, map, append-assoc, append-nil}
-use Prim.Native.Nat.{ℕ, zero, suc, _<_}
+use Prim.Native.Nat.{ℕ, zero, suc, _≤_, _<_}
 use native.Mathlib.Nat.{not-suc-le-zero}
 use native.Mathlib.Omega.{arith}
-use lib.Dec.{T}
+use lib.Dec.{T, ltb, ltb→lt}
 use lib.ListN.{length, getD}
-use Rattle.calculus.specs.Terms.{Command, assume, step, idOf, sameName}
-use Rattle.calculus.specs.Limits.{known, allowed, allowedBehind}
+use Rattle.calculus.specs.Terms.{Command, assume, step, pol, idOf, sameName}
+use Rattle.calculus.specs.Limits.{maxPols, polLines, known, allowed, allowedBehind}
 use Rattle.calculus.proofs.Booleans.{and-l, and-r, and-mk, is-false}
 use Rattle.theorems.proofs.FaithfulFile.{faithful}
 use Rattle.theorems.proofs.OpbIds.{both-limits}
@@ -19,10 +19,10 @@ use Rattle.reader.specs.Reading.{ReadsFile}
 use Rattle.reader.specs.declared.Whole.{Whole}
 use Rattle.reader.specs.declared.Whole.the-variants.{All}
 use Rattle.opb_reader.specs.Reading.{BothIs}
-use Rattle.reader.proofs.Words.{command-id, commands-long, commands-named}
-use Rattle.terms.specs.Spans.{stringAt}
+use Rattle.reader.proofs.Words.{command-id, commands-long, commands-named, pols-snoc}
+use Rattle.terms.specs.Spans.{maxJoined, stringAt}
 use Rattle.terms.proofs.Places.{strings-at}
-use Rattle.checker.specs.Runs.{File}
+use Rattle.checker.specs.Runs.{Taken}
 
 -- ---- the last of allowed commands
 allowed-both : (cs ds : List Command) (c : Command) → T (allowedBehind cs (ds ++ (c ∷ []))) → T (allowedBehind cs ds) × T (allowed (cs ++ ds) c)
@@ -37,6 +37,16 @@ allowed-new : (cs : List Command) (c : Command) → T (allowed cs c) → known c
 unfolding allowed idOf
 allowed-new cs (assume d x) h = is-false (known cs d) (and-l (not (known cs d)) _ h)
 allowed-new cs (step d c r ds xs) h = is-false (known cs d) (and-l (not (known cs d)) _ h)
+allowed-new cs (pol d ws) h = is-false (known cs d) (and-l (not (known cs d)) _ h)
+
+-- and the pol lines with it are few
+allowed-pols : (cs : List Command) (c : Command) → T (allowed cs c) → polLines cs ≤ maxPols → polLines (cs ++ (c ∷ [])) ≤ maxPols
+unfolding allowed polLines
+allowed-pols cs (assume d x) t h = omega (arith, pols-snoc cs (assume d x))
+allowed-pols cs (step d c r ds xs) t h = omega (arith, pols-snoc cs (step d c r ds xs))
+allowed-pols cs (pol d ws) t h =
+    let l : polLines cs < maxPols = ltb→lt (polLines cs) maxPols (and-l (ltb (polLines cs) maxPols) _ (and-r (not (known cs d)) _ t)) in
+    omega (arith, pols-snoc cs (pol d ws))
 
 or-false-l : (a b : Bool) → (a || b) ≡ false → a ≡ false
 or-false-l true b e = e
@@ -68,31 +78,44 @@ module _ (s t w : List ℕ) where
       ap (λ (d : List ℕ). sameName d (stringAt s w j)) (sym (ap (λ (ds : List (List ℕ)). getD ds i []) (commands-named s t w j) ∙ strings-at s w j i a))
       ∙ unknown-at (commandsOf s t w j) (stringAt s w j) i (new-at n h j b) (omega (arith, commands-long s t w j))
 
--- what is published of a text that was read makes it a file
-pub file-of : (s t u w x : List ℕ) (r : Whole) (k n c : ℕ) → ReadsFile s t u w x r → r ≡ All k n c → File s u x k
-file-of s t u w x r k n c h e =
-    let (read, table, firsts, named, commands) = subst (ReadsFile s t u w x) e h in
+  few-pols : (n : ℕ) → T (allowedBehind [] (commandsOf s t w n)) → polLines (commandsOf s t w n) ≤ maxPols
+  unfolding commandsOf polLines
+  few-pols zero h = omega arith
+  few-pols (suc n) h =
+      let (before, last) = allowed-both [] (commandsOf s t w n) (commandOf s t w n) h in
+      allowed-pols (commandsOf s t w n) (commandOf s t w n) last (few-pols n before)
+
+-- what is published of a text that was read
+pub taken-of : (s t u w x : List ℕ) (r : Whole) (k n c p : ℕ) → ReadsFile s t u w x r → r ≡ All k n c p → Taken s u x k n c p
+taken-of s t u w x r k n c p h e =
+    let (read, table, firsts, named, commands, pols, indexed) = subst (ReadsFile s t u w x) e h in
+    let is = faithful s (commandsOf s u x k) read in
     record {
-      nodes = n;
-      children = c;
+      text = omega (arith, is .short);
       table = table;
       firsts = firsts;
       named = named;
       commands = commands;
-      distinct = apart s u x k (faithful s (commandsOf s u x k) read .limits .allowed);
+      distinct = apart s u x k (is .limits .allowed);
+      indexed = indexed;
+      pols = pols;
+      few = omega (arith, pols, few-pols s u x k (is .limits .allowed));
     }
 
--- so does what is published of both texts
-pub file-both : (o s j u x : List ℕ) (r : Whole) (k n c : ℕ) → BothIs o s j u x r → r ≡ All k n c → File j u x k
-file-both o s j u x r k n c h e =
-    let (read, table, firsts, named, commands) = subst (BothIs o s j u x) e h in
-    let (ks, cs, p, q, same) = both-faithful o s (commandsOf j u x k) read in
+-- and of both texts
+pub taken-both : (o s j u x : List ℕ) (r : Whole) (k n c p : ℕ) → length j ≤ maxJoined → BothIs o s j u x r → r ≡ All k n c p → Taken j u x k n c p
+taken-both o s j u x r k n c p long h e =
+    let (read, table, firsts, named, commands, pols, indexed) = subst (BothIs o s j u x) e h in
+    let (ks, cs, a, b, same) = both-faithful o s (commandsOf j u x k) read in
+    let allow : T (allowedBehind [] (commandsOf j u x k)) = subst (λ (ds : List Command). T (allowedBehind [] ds)) (sym same) (both-limits o s ks cs a b .allowed) in
     record {
-      nodes = n;
-      children = c;
+      text = long;
       table = table;
       firsts = firsts;
       named = named;
       commands = commands;
-      distinct = apart j u x k (subst (λ (ds : List Command). T (allowedBehind [] ds)) (sym same) (both-limits o s ks cs p q .allowed));
+      distinct = apart j u x k allow;
+      indexed = indexed;
+      pols = pols;
+      few = omega (arith, pols, few-pols j u x k allow);
     }

@@ -9,9 +9,11 @@ use Rattle.calculus.specs.Report.{minTable}
 use Rattle.calculus.specs.Limits.{maxText}
 use Rattle.opb_reader.specs.Ids.{ids, kept, joined}
 use Rattle.opb_reader.specs.Reading.{BothReady}
+use Rattle.opb_reader.proofs.Ids.{last-id, kept-size, joined-size}
 use Rattle.reader.specs.Commands.{allWords}
 use Rattle.report.specs.Written.{Wrote}
 use Rattle.report.proofs.Writing.{wrote-front}
+use Rattle.terms.specs.Spans.{maxJoined}
 
 -- the proof text behind the ids
 joined-all : (o s : List ℕ) → length s ≤ maxText → o ++ ids ++ s ≡ joined o s
@@ -34,3 +36,7 @@ pub both-ready : (o s : List ℕ) {d e : List ℕ} (t w : List ℕ) {r : ℕ} �
 both-ready o s {d} {e} t w {r} h W room words =
     let z : r - 0 ≡ r = omega arith in
     record { short = h; joined = ap (λ (i : ℕ). take i e) z ∙ wrote-front W; room = room; words = words }
+
+-- how many bytes they are
+pub both-long : {o s j t w : List ℕ} → BothReady o s j t w → length j ≤ maxJoined
+both-long {o} {s} B = let size = ap length (B .joined) ∙ joined-size o s in omega (arith, size, B .short, kept-size s, last-id)

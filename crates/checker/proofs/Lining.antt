@@ -1,26 +1,30 @@
 -- The lines of a file in the reader's tables: each is that of its command, and a cited premise is found by its id.
-use mathlib.Core.Path.{_≡_, refl, sym, ap, ap₂, _∙_}
+use mathlib.Core.Path.{_≡_, refl, sym, ap, ap₂, subst, _∙_}
 use mathlib.Core.Bool.{Bool, true, false, not, _&&_, _||_, or-assoc, or-false}
 use mathlib.Core.List.{List, [], _∷_, _++_, map}
 use Prim.Native.Nat.{ℕ, zero, suc, _+_, _≤_, _<_}
+use native.Mathlib.Decide.{ℕ-discrete}
 use native.Mathlib.Nat.{not-suc-le-zero}
 use native.Mathlib.Omega.{arith}
 use lib.Dec.{T, ltb, ltb→lt, nltb→le}
 use lib.IntN.{pos}
 use lib.ListN.{length, getD, length-append, List·getD-append}
-use Rattle.calculus.specs.Marks.{Line, lineOf, run, noLine, pick, lineAt, clausesAt, allHold, contradiction, refutedBy, applyRule, plainOf}
-use Rattle.calculus.specs.Terms.{Term, num, Command, sameName}
+use Rattle.calculus.specs.Marks.{Line, lineOf, run, noLine, pick, lineAt, clausesAt, allHold, polAnswer, contradiction, refutedBy, applyRule, plainOf}
+use Rattle.calculus.specs.Pol.{polResult, givenAnswer, pushedIds}
+use Rattle.calculus.specs.Terms.{Term, num, Command, assume, step, pol, idOf, sameName}
 use Rattle.calculus.specs.Truth.{isStatement}
 use Rattle.calculus.specs.Words.{ok}
 use Rattle.calculus.proofs.Booleans.{is-true}
 use Rattle.calculus.proofs.TermLaws.{sameName-refl}
 use Rattle.heads.specs.Heads.{ruleNamed}
 use Rattle.nodes.specs.Nodes.{decode, Below}
-use Rattle.nodes.proofs.Tables.{children-length}
-use Rattle.reader.specs.Commands.{commandOf, commandsOf, wordAt, kindWord, clauseWord, premisesWord, argumentsWord, partAt, commandAs}
+use Rattle.nodes.proofs.Tables.{children-length, by-node}
+use Rattle.reader.specs.Commands.{commandOf, commandsOf, wordAt, kindWord, clauseWord, premisesWord, argumentsWord, partAt, polKind, polWordsOf, commandAs}
+use Rattle.reader.proofs.Words.{command-pol, command-other, command-id}
+use Rattle.lines.specs.Running.{ClausesAre}
 use Rattle.links.specs.Steps.{clauses}
 use Rattle.terms.specs.Spans.{stringAt}
-use Rattle.checker.specs.Runs.{File, commandLines, commandLine, Marked, allMarked}
+use Rattle.checker.specs.Runs.{File, commandLines, commandLine, HoldBy, Marked, allMarked}
 
 -- ---- one line more
 run-append : (ls : List Line) (cs : List Command) (c : Command) → run ls (cs ++ (c ∷ [])) ≡ run ls cs ++ (lineOf (run ls cs) c ∷ [])
@@ -80,10 +84,11 @@ first-term : (f : ℕ → Term) (l : List ℕ) → length l ≡ 1 → getD (map 
 first-term f [] e = let z : ⊥ = omega arith in absurd z
 first-term f (x ∷ l) e = refl
 
-line-id : (ls : List Line) (d : List ℕ) (kind : ℕ) (c : List Term) (ds : List (List ℕ)) (xs : List Term) → lineOf ls (commandAs d kind c ds xs) .id ≡ d
-unfolding lineOf commandAs
-line-id ls d zero c ds xs = refl
-line-id ls d (suc r) c ds xs = refl
+line-id : (ls : List Line) (c : Command) → lineOf ls c .id ≡ idOf c
+unfolding lineOf idOf
+line-id ls (assume d x) = refl
+line-id ls (step d c r ds xs) = refl
+line-id ls (pol d ws) = refl
 
 line-clause : (ls : List Line) (d : List ℕ) (kind : ℕ) (f : ℕ → Term) (l : List ℕ) (ds : List (List ℕ)) (xs : List Term) → (kind ≡ 0 → length l ≡ 1)
     → lineOf ls (commandAs d kind (map f l) ds xs) .clause ≡ map f l
@@ -101,16 +106,19 @@ module _ {s t w : List ℕ} {n : ℕ} (f : File s t w n) where
       ∙ i .one e
 
   pub id-is : (j : ℕ) → commandLine s t w j .id ≡ stringAt s w j
-  unfolding commandLine commandOf
-  id-is j =
-      line-id (commandLines s t w j) (stringAt s w j) (wordAt w j kindWord) (map (decode s t) (partAt t w j clauseWord))
-      (map (stringAt s w) (partAt t w j premisesWord)) (map (decode s t) (partAt t w j argumentsWord))
+  unfolding commandLine
+  id-is j = line-id (commandLines s t w j) (commandOf s t w j) ∙ command-id s t w j
 
-  pub clause-is : (j : ℕ) → j < n → commandLine s t w j .clause ≡ map (decode s t) (partAt t w j clauseWord)
-  unfolding commandLine commandOf
-  clause-is j h =
-      line-clause (commandLines s t w j) (stringAt s w j) (wordAt w j kindWord) (decode s t) (partAt t w j clauseWord)
-      (map (stringAt s w) (partAt t w j premisesWord)) (map (decode s t) (partAt t w j argumentsWord)) (clause-one j h)
+  -- its line by its kind
+  line-pol : (k : ℕ) → wordAt w k kindWord ≡ polKind → commandLine s t w k ≡ lineOf (commandLines s t w k) (pol (stringAt s w k) (polWordsOf s w k))
+  unfolding commandLine
+  line-pol k e = ap (lineOf (commandLines s t w k)) (command-pol s t w k e)
+
+  line-other : (k : ℕ) → (wordAt w k kindWord ≡ polKind → ⊥) → commandLine s t w k
+      ≡ lineOf (commandLines s t w k) (commandAs (stringAt s w k) (wordAt w k kindWord) (map (decode s t) (partAt t w k clauseWord))
+      (map (stringAt s w) (partAt t w k premisesWord)) (map (decode s t) (partAt t w k argumentsWord)))
+  unfolding commandLine
+  line-other k e = ap (lineOf (commandLines s t w k)) (command-other s t w k e)
 
   -- ---- a cited premise
   pub line-cited : (k j : ℕ) → k ≤ n → j < k → lineAt (commandLines s t w k) (stringAt s w j) ≡ commandLine s t w j
@@ -124,6 +132,40 @@ module _ {s t w : List ℕ} {n : ℕ} (f : File s t w n) where
           ap (λ (l : Line). sameName (l .id) (stringAt s w j)) (line-in s t w k i (omega arith))
           ∙ ap (λ (d : List ℕ). sameName d (stringAt s w j)) (id-is i)
           ∙ f .distinct i j g (omega arith)
+
+  -- ---- clauses
+  -- they are the table's, from above to below: that of a pol line by those above it
+  pol-clause : (k : ℕ) → k < n → wordAt w k kindWord ≡ polKind → ((j : ℕ) → j < k → commandLine s t w j .clause ≡ map (decode s t) (partAt t w j clauseWord)) → commandLine s t w k .clause ≡ map (decode s t) (partAt t w k clauseWord)
+  unfolding lineOf polAnswer
+  pol-clause k h e g =
+      ap (λ (l : Line). l .clause) (line-pol k e)
+      ∙ sym (f .clauses k h e (λ d. lineAt (commandLines s t w k) d .clause) (λ j i. ap (λ (l : Line). l .clause) (line-cited k j (omega arith) i) ∙ g j i))
+
+  other-clause : (k : ℕ) → k < n → (wordAt w k kindWord ≡ polKind → ⊥) → commandLine s t w k .clause ≡ map (decode s t) (partAt t w k clauseWord)
+  other-clause k h e =
+      ap (λ (l : Line). l .clause) (line-other k e)
+      ∙ line-clause (commandLines s t w k) (stringAt s w k) (wordAt w k kindWord) (decode s t) (partAt t w k clauseWord)
+      (map (stringAt s w) (partAt t w k premisesWord)) (map (decode s t) (partAt t w k argumentsWord)) (clause-one k h)
+
+  clauses-below : (k : ℕ) → k ≤ n → (j : ℕ) → j < k → commandLine s t w j .clause ≡ map (decode s t) (partAt t w j clauseWord)
+  clauses-below zero h j i = absurd (not-suc-le-zero i)
+  clauses-below (suc k) h j i =
+      by-node {i = j} {n = k} (omega arith) (clauses-below k (omega arith) j)
+      (λ e. subst (λ (m : ℕ). commandLine s t w m .clause ≡ map (decode s t) (partAt t w m clauseWord)) (sym e) (go (ℕ-discrete (wordAt w k kindWord) polKind) (clauses-below k (omega arith))))
+    where
+      go : Dec (wordAt w k kindWord ≡ polKind) → ((j : ℕ) → j < k → commandLine s t w j .clause ≡ map (decode s t) (partAt t w j clauseWord)) → commandLine s t w k .clause ≡ map (decode s t) (partAt t w k clauseWord)
+      go (yes e) g = pol-clause k h e g
+      go (no e) g = other-clause k h e
+
+  pub clause-is : (j : ℕ) → j < n → commandLine s t w j .clause ≡ map (decode s t) (partAt t w j clauseWord)
+  clause-is j h = clauses-below (suc j) h j (omega arith)
+
+  -- what the lines above command k say
+  pub clauses-above : (k : ℕ) → k ≤ n → ClausesAre (λ d. lineAt (commandLines s t w k) d .clause) s t w k
+  clauses-above k h j i = ap (λ (l : Line). l .clause) (line-cited k j h i) ∙ clause-is j (omega arith)
+
+  pub hold-by : (k : ℕ) → k ≤ n → (marks : List Bool) → Marked s t w k marks → HoldBy (commandLines s t w k) s w k marks
+  hold-by k h marks m j i = ap (λ (l : Line). l .holds) (line-cited k j h i) ∙ sym (m j i)
 
   -- the clauses of cited premises are those of the tables
   pub cited-clauses : (k : ℕ) → k ≤ n → (ps : List ℕ) → Below k ps → clausesAt (commandLines s t w k) (map (stringAt s w) ps) ≡ clauses (decode s t) t w ps
@@ -150,17 +192,26 @@ module _ {s t w : List ℕ} {n : ℕ} (f : File s t w n) where
       rw e (ap isStatement (first-term (decode s t) (partAt t w k clauseWord) (clause-one k h e)))
 
   -- ---- a step
-  pub step-answer : (k number : ℕ) → k < n → wordAt w k kindWord ≡ suc number
+  pub step-answer : (k number : ℕ) → k < n → wordAt w k kindWord ≡ suc number → (wordAt w k kindWord ≡ polKind → ⊥)
       → commandLine s t w k .answer
       ≡ applyRule (ruleNamed number) (clauses (decode s t) t w (partAt t w k premisesWord)) (map (decode s t) (partAt t w k argumentsWord)) (map (decode s t) (partAt t w k clauseWord))
-  unfolding commandLine commandOf commandAs lineOf
-  step-answer k number h e = rw (e, cited-clauses k (omega arith) (partAt t w k premisesWord) (f .commands .each k h .above)) refl
+  unfolding commandAs lineOf
+  step-answer k number h e other = rw (line-other k other, e, cited-clauses k (omega arith) (partAt t w k premisesWord) (f .commands .each k h .above)) refl
 
-  pub step-holds : (k number : ℕ) (marks : List Bool) → k < n → wordAt w k kindWord ≡ suc number → Marked s t w k marks
+  pub step-holds : (k number : ℕ) (marks : List Bool) → k < n → wordAt w k kindWord ≡ suc number → (wordAt w k kindWord ≡ polKind → ⊥) → Marked s t w k marks
       → commandLine s t w k .holds ≡ (plainOf (commandLine s t w k .answer) && allMarked marks (partAt t w k premisesWord))
-  unfolding commandLine commandOf commandAs lineOf
-  step-holds k number marks h e m =
-      rw (e, cited-hold k (omega arith) marks m (partAt t w k premisesWord) (f .commands .each k h .above)) refl
+  unfolding commandAs lineOf
+  step-holds k number marks h e other m =
+      rw (line-other k other, e, cited-hold k (omega arith) marks m (partAt t w k premisesWord) (f .commands .each k h .above)) refl
+
+  -- ---- a pol line
+  pub pol-answer : (k : ℕ) → wordAt w k kindWord ≡ polKind → commandLine s t w k .answer ≡ givenAnswer (polResult (λ d. lineAt (commandLines s t w k) d .clause) (polWordsOf s w k))
+  unfolding lineOf polAnswer
+  pol-answer k e = ap (λ (l : Line). l .answer) (line-pol k e)
+
+  pub pol-holds : (k : ℕ) → wordAt w k kindWord ≡ polKind → commandLine s t w k .holds ≡ (plainOf (commandLine s t w k .answer) && allHold (commandLines s t w k) (pushedIds (polWordsOf s w k)))
+  unfolding lineOf
+  pol-holds k e = rw (line-pol k e) refl
 
 -- ---- refuted
 refuted-append : (ls : List Line) (l : Line) → refutedBy (ls ++ (l ∷ [])) ≡ (refutedBy ls || (l .holds && contradiction (l .clause)))

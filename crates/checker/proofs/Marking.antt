@@ -3,23 +3,26 @@ use mathlib.Core.Path.{_≡_, refl, sym, ap, ap₂, _∙_}
 use mathlib.Core.Bool.{Bool, true, false, _&&_, _||_}
 use mathlib.Core.List.{List, [], _∷_, map}
 use Prim.Native.Nat.{ℕ, zero, suc, _+_, _-_, _≤_, _<_}
+use native.Mathlib.Decide.{ℕ-discrete}
 use native.Mathlib.Nat.{not-suc-le-zero}
 use native.Mathlib.Omega.{arith}
 use native.Mathlib.Numerals.{add-one}
 use lib.ListN.{length, getD, set, drop}
 use lib.Seq.{drop-cons}
-use Rattle.calculus.specs.Marks.{plainOf, contradiction, refutedBy}
+use Rattle.calculus.specs.Marks.{plainOf, allHold, contradiction, refutedBy}
+use Rattle.calculus.specs.Pol.{pushedIds}
 use Rattle.calculus.specs.Terms.{Term}
 use Rattle.calculus.specs.Truth.{isStatement}
 use Rattle.nodes.specs.Nodes.{decode}
 use Rattle.nodes.proofs.Tables.{below-at, by-node}
 use Rattle.matching.specs.Matched.{AllNodes}
-use Rattle.reader.specs.Commands.{wordAt, kindWord, clauseWord, premisesWord, argumentsWord, partAt}
+use Rattle.reader.specs.Commands.{wordAt, kindWord, clauseWord, premisesWord, argumentsWord, partAt, polKind, polWordsOf}
+use Rattle.reader.specs.Reading.{Ids}
 use Rattle.links.specs.Steps.{Part}
 use Rattle.steps.proofs.Stepping.{part-used, nodes-used}
-use Rattle.checker.specs.Runs.{File, commandLines, commandLine, Marked, allMarked}
+use Rattle.checker.specs.Runs.{File, commandLines, commandLine, PushesAre, Marked, allMarked}
 use Rattle.checker.proofs.Answering.{first-more}
-use Rattle.checker.proofs.Lining.{clause-is, assumed-holds, step-holds, refuted-more}
+use Rattle.checker.proofs.Lining.{clause-is, hold-by, assumed-holds, step-holds, pol-holds, refuted-more}
 
 -- ---- whether all cited premises are marked, from premise j on
 module _ (marks : List Bool) where
@@ -62,19 +65,35 @@ module _ {s t w : List ℕ} {n : ℕ} (f : File s t w n) where
   pub premises-above : (k : ℕ) → k < n → (i : ℕ) → i < length (partAt t w k premisesWord) → getD (partAt t w k premisesWord) i 0 < k
   premises-above k h i g = below-at (partAt t w k premisesWord) i (f .commands .each k h .above) g
 
+  -- the ids stand in their index
+  pub ids-of : Ids s w n
+  ids-of = record { room = f .commands .room; few = f .commands .few; spans = f .commands .ids; indexed = f .indexed }
+
   module _ (k : ℕ) (h : k < n) where
     pub holds-assumed : (r : Bool) → wordAt w k kindWord ≡ 0 → r ≡ isStatement (decode s t (getD (partAt t w k clauseWord) 0 0)) → r ≡ commandLine s t w k .holds
     holds-assumed r e q = q ∙ sym (assumed-holds f k h e)
 
-    module _ (marks : List Bool) (i : 1 ≤ wordAt w k kindWord) (m : Marked s t w k marks) (plain : Bool) (p : plain ≡ plainOf (commandLine s t w k .answer)) where
-      holds-is : commandLine s t w k .holds ≡ (plain && allMarked marks (partAt t w k premisesWord))
-      holds-is = step-holds f k (wordAt w k kindWord - 1) marks h (omega arith) m ∙ ap (λ (b : Bool). b && allMarked marks (partAt t w k premisesWord)) (sym p)
+    module _ (marks : List Bool) (m : Marked s t w k marks) (plain : Bool) (p : plain ≡ plainOf (commandLine s t w k .answer)) where
+      holds-is : 1 ≤ wordAt w k kindWord → (wordAt w k kindWord ≡ polKind → ⊥) → commandLine s t w k .holds ≡ (plain && allMarked marks (partAt t w k premisesWord))
+      holds-is i other = step-holds f k (wordAt w k kindWord - 1) marks h (omega arith) other m ∙ ap (λ (b : Bool). b && allMarked marks (partAt t w k premisesWord)) (sym p)
 
-      pub holds-not : plain ≡ false → false ≡ commandLine s t w k .holds
-      holds-not e = sym (holds-is ∙ ap (λ (b : Bool). b && allMarked marks (partAt t w k premisesWord)) e)
+      pol-is : wordAt w k kindWord ≡ polKind → commandLine s t w k .holds ≡ (plain && allHold (commandLines s t w k) (pushedIds (polWordsOf s w k)))
+      pol-is i = pol-holds f k i ∙ ap (λ (b : Bool). b && allHold (commandLines s t w k) (pushedIds (polWordsOf s w k))) (sym p)
 
-      pub holds-cited : (r : Bool) → plain ≡ true → r ≡ allMarked marks (partAt t w k premisesWord) → r ≡ commandLine s t w k .holds
-      holds-cited r e q = q ∙ sym (holds-is ∙ ap (λ (b : Bool). b && allMarked marks (partAt t w k premisesWord)) e)
+      pub holds-not : 1 ≤ wordAt w k kindWord → plain ≡ false → false ≡ commandLine s t w k .holds
+      holds-not i e = go (ℕ-discrete (wordAt w k kindWord) polKind)
+        where
+          go : Dec (wordAt w k kindWord ≡ polKind) → false ≡ commandLine s t w k .holds
+          go (yes z) = sym (pol-is z ∙ ap (λ (b : Bool). b && allHold (commandLines s t w k) (pushedIds (polWordsOf s w k))) e)
+          go (no z) = sym (holds-is i z ∙ ap (λ (b : Bool). b && allMarked marks (partAt t w k premisesWord)) e)
+
+      pub holds-pushed : (r : Bool) → wordAt w k kindWord ≡ polKind → plain ≡ true → PushesAre s w k marks r → r ≡ commandLine s t w k .holds
+      holds-pushed r i e q =
+          q (commandLines s t w k) (hold-by f k (omega arith) marks m)
+          ∙ sym (pol-is i ∙ ap (λ (b : Bool). b && allHold (commandLines s t w k) (pushedIds (polWordsOf s w k))) e)
+
+      pub holds-cited : (r : Bool) → 1 ≤ wordAt w k kindWord → (wordAt w k kindWord ≡ polKind → ⊥) → plain ≡ true → r ≡ allMarked marks (partAt t w k premisesWord) → r ≡ commandLine s t w k .holds
+      holds-cited r i other e q = q ∙ sym (holds-is i other ∙ ap (λ (b : Bool). b && allMarked marks (partAt t w k premisesWord)) e)
 
     -- whether it refutes
     module _ (marks : List Bool) (m : Marked s t w n marks) where

@@ -5,43 +5,48 @@ use mathlib.Core.List.{List, [], map}
 use Prim.Native.Nat.{ℕ, zero, suc, _≤_, _<_}
 use native.Mathlib.Omega.{arith}
 use borrow.Author.Tests.{lt-leb}
-use lib.Dec.{leb, le→leb, leb→le, not-T}
+use lib.Dec.{eqb, leb, le→leb, leb→le, not-T}
 use lib.ListN.{length, getD}
-use Rattle.calculus.specs.Claim.{Sound}
+use Rattle.calculus.specs.Bytes.{bytes}
+use Rattle.calculus.specs.Clauses.{Sound, SoundBoth}
 use Rattle.calculus.specs.Marks.{Line, lineOf}
-use Rattle.calculus.specs.OpbClaim.{SoundBoth}
 use Rattle.calculus.specs.OpbReading.{readOpb}
 use Rattle.calculus.specs.OpbReport.{onOpb, readBoth, reportBoth, writtenBoth}
 use Rattle.calculus.specs.Report.{minReport, minTable, reportLines, reportOf, reportRead, refusalText, written}
-use Rattle.calculus.specs.Terms.{Term}
+use Rattle.calculus.specs.Terms.{Term, pol}
 use Rattle.calculus.specs.Limits.{maxText}
 use Rattle.calculus.proofs.Booleans.{is-true, is-false}
 use Rattle.theorems.proofs.OpbSoundness.{sound-both-written}
 use Rattle.theorems.proofs.Soundness.{sound-written}
 use Rattle.nodes.specs.Nodes.{decode}
-use Rattle.reader.specs.Commands.{allWords, wordAt, kindWord, clauseWord, premisesWord, argumentsWord, partAt, commandAs, commandOf}
+use Rattle.reader.specs.Commands.{allWords, wordAt, kindWord, clauseWord, premisesWord, argumentsWord, partAt, polKind, polWordsOf, commandAs, commandOf}
 use Rattle.reader.specs.Reading.{ReadsFile}
 use Rattle.reader.specs.declared.Whole.{Whole}
 use Rattle.reader.specs.declared.Whole.the-variants.{All, Refused, Small}
 use Rattle.opb_reader.specs.Reading.{BothIs}
-use Rattle.report.specs.Lines.{nameOf, LineHas, LinesAre, Printable}
+use Rattle.report.specs.Lines.{stepName, nameOf, LineHas, LinesAre, Printable}
 use Rattle.report.specs.Written.{Wrote}
 use Rattle.terms.specs.Spans.{stringAt}
 use Rattle.checker.specs.Runs.{File, commandLines, commandLine, Numbered, Plained, Marked}
 use Rattle.checker.proofs.Lining.{lines-long, line-in, id-is}
 
 -- ---- the lines
-line-rule : (ls : List Line) (d : List ℕ) (kind : ℕ) (c : List Term) (ds : List (List ℕ)) (xs : List Term) → lineOf ls (commandAs d kind c ds xs) .rule ≡ nameOf kind
-unfolding lineOf commandAs nameOf
+line-rule : (ls : List Line) (d : List ℕ) (kind : ℕ) (c : List Term) (ds : List (List ℕ)) (xs : List Term) → lineOf ls (commandAs d kind c ds xs) .rule ≡ stepName kind
+unfolding lineOf commandAs stepName
 line-rule ls d zero c ds xs = refl
 line-rule ls d (suc r) c ds xs = refl
 
 module _ {s t w : List ℕ} {n : ℕ} (f : File s t w n) where
   rule-is : (k : ℕ) → commandLine s t w k .rule ≡ nameOf (wordAt w k kindWord)
-  unfolding commandLine commandOf
-  rule-is k =
-      line-rule (commandLines s t w k) (stringAt s w k) (wordAt w k kindWord) (map (decode s t) (partAt t w k clauseWord))
-      (map (stringAt s w) (partAt t w k premisesWord)) (map (decode s t) (partAt t w k argumentsWord))
+  unfolding commandLine commandOf nameOf lineOf
+  rule-is k = go (eqb (wordAt w k kindWord) polKind)
+    where
+      go : (b : Bool) → lineOf (commandLines s t w k) (cond b (pol (stringAt s w k) (polWordsOf s w k)) (commandAs (stringAt s w k) (wordAt w k kindWord) (map (decode s t) (partAt t w k clauseWord)) (map (stringAt s w) (partAt t w k premisesWord)) (map (decode s t) (partAt t w k argumentsWord)))) .rule
+          ≡ cond b (bytes "pol") (stepName (wordAt w k kindWord))
+      go true = refl
+      go false =
+          line-rule (commandLines s t w k) (stringAt s w k) (wordAt w k kindWord) (map (decode s t) (partAt t w k clauseWord))
+          (map (stringAt s w) (partAt t w k premisesWord)) (map (decode s t) (partAt t w k argumentsWord))
 
   -- the numbers and marks are those of the lines
   pub lines-are : {ns : List ℕ} {ps marks : List Bool} → Numbered s t w n ns → Plained s t w n ps → Marked s t w n marks → LinesAre s w ns ps marks n (commandLines s t w n)
@@ -65,9 +70,9 @@ module _ {s t w : List ℕ} {n : ℕ} (f : File s t w n) where
 
 -- ---- the report of a text, by what the reader answers
 module _ (s t u w x : List ℕ) (r : Whole) (R : ReadsFile s t u w x r) where
-  pub report-all : (k n c : ℕ) → r ≡ All k n c → {d e : List ℕ} {m : ℕ} → Wrote d 0 (reportLines (commandLines s u x k)) e m → Wrote d 0 (reportOf s) e m
+  pub report-all : (k n c p : ℕ) → r ≡ All k n c p → {d e : List ℕ} {m : ℕ} → Wrote d 0 (reportLines (commandLines s u x k)) e m → Wrote d 0 (reportOf s) e m
   unfolding reportOf reportRead commandLines
-  report-all k n c q {d} {e} {m} W =
+  report-all k n c p q {d} {e} {m} W =
       subst (λ (z : List ℕ). Wrote d 0 z e m) (sym (ap reportRead (subst (ReadsFile s t u w x) q R .0))) W
 
   pub report-refused : (number byte : ℕ) → r ≡ Refused number byte → {d e : List ℕ} {m : ℕ} → Wrote d 0 (refusalText number byte) e m → Wrote d 0 (reportOf s) e m
@@ -81,9 +86,9 @@ module _ (s t u w x : List ℕ) (r : Whole) (R : ReadsFile s t u w x r) where
 
 -- ---- the report of both texts, by what the reader answers
 module _ (o s j u x : List ℕ) (r : Whole) (R : BothIs o s j u x r) where
-  pub both-report : (k n c : ℕ) → r ≡ All k n c → {d e : List ℕ} {m : ℕ} → Wrote d 0 (reportLines (commandLines j u x k)) e m → Wrote d 0 (reportBoth o s) e m
+  pub both-report : (k n c p : ℕ) → r ≡ All k n c p → {d e : List ℕ} {m : ℕ} → Wrote d 0 (reportLines (commandLines j u x k)) e m → Wrote d 0 (reportBoth o s) e m
   unfolding reportBoth reportRead commandLines
-  both-report k n c q {d} {e} {m} W = subst (λ (z : List ℕ). Wrote d 0 z e m) (sym (ap reportRead (subst (BothIs o s j u x) q R .0))) W
+  both-report k n c p q {d} {e} {m} W = subst (λ (z : List ℕ). Wrote d 0 z e m) (sym (ap reportRead (subst (BothIs o s j u x) q R .0))) W
 
   pub both-refusal : (number byte : ℕ) → r ≡ Refused number byte → {d e : List ℕ} {m : ℕ} → Wrote d 0 (refusalText number byte) e m → Wrote d 0 (reportBoth o s) e m
   unfolding reportBoth reportRead

@@ -1,5 +1,11 @@
 // The checker: reads a text, answers its steps, marks its lines, and writes the report.
 use heads::MAX_COMMANDS;
+use heads::PolHead;
+use heads::closes;
+use heads::pol_word;
+use lines::POL_KIND;
+use lines::behind;
+use lines::run_lines;
 use links::CLAUSE_WORD;
 use links::KIND_WORD;
 use links::PREMISES_WORD;
@@ -9,8 +15,10 @@ use marks::contradiction;
 use marks::is_statement;
 use matching::Answer;
 use nodes::wide;
+use nodes::wide_short;
 use opb_reader::read_both;
 use reader::COMMAND_WORDS;
+use reader::ID_INDEX;
 use reader::MAX_TEXT;
 use reader::NODE_WORDS;
 use reader::TOO_LONG;
@@ -22,12 +30,14 @@ use report::write_report;
 use steps::check_step;
 use sums::ENTRIES;
 use sums::SLOTS;
+use terms::place_of;
+use wider::index_names;
+use wider::widen;
 ghost use mathlib.Core.Path.{_≡_};
 ghost use Prim.Native.Nat.{_≤_, _<_};
 ghost use lib.ListN.{length, set, take, drop};
-ghost use Rattle.calculus.specs.Claim.{Sound};
+ghost use Rattle.calculus.specs.Clauses.{Sound, SoundBoth};
 ghost use Rattle.calculus.specs.Marks.{numberOf, plainOf};
-ghost use Rattle.calculus.specs.OpbClaim.{SoundBoth};
 ghost use Rattle.calculus.specs.OpbReport.{reportBoth, writtenBoth};
 ghost use Rattle.calculus.specs.Report.{minReport, minTable, reportLines, reportOf, written};
 ghost use Rattle.calculus.specs.Limits.{maxText, maxNodes};
@@ -35,14 +45,28 @@ ghost use Rattle.nodes.specs.Nodes.{capacity};
 ghost use Rattle.matching.specs.Matched.{answerOf};
 ghost use Rattle.opb_reader.specs.Ids.{joined};
 ghost use Rattle.opb_reader.specs.Reading.{BothReady};
-ghost use Rattle.reader.specs.Commands.{allWords};
+ghost use Rattle.reader.specs.Commands.{allWords, PolRead};
+ghost use Rattle.reader.specs.Reading.{Ids};
 ghost use Rattle.report.specs.Written.{Wrote};
 ghost use Rattle.sums.specs.Places.{Rooms};
 ghost use Rattle.terms.specs.Spans.{maxJoined};
-ghost use Rattle.checker.specs.Runs.{File, Filed, commandLines, allMarked, AnswerIs, AnswersAre, HoldsIs, MarksAre, RefutesIs, RefutedIs, Cited};
+ghost use Rattle.checker.specs.Runs.{TakenSome, File, Filed, commandLines, answered, NoPols, AnsweredBy, allMarked, PushIs, PushesAre, AnswerIs, AnswersAre, HoldsIs, MarksAre, RefutesIs, RefutedIs, Cited};
+ghost use Rattle.lines.specs.Running.{HeadIn};
 
 // The least report that a call has to be lent; of the node table the least is reader::NODE_WORDS.
 pub const REPORT_BYTES: usize = 65536;
+
+// The words of the table of a file with pol lines: 26,816 nodes, 4,096 of the file, 323 of each of 64 clauses and 2,048 names.
+const TABLE_WORDS: usize = 107264;
+
+// The words of the index of its names.
+const NAME_WORDS: usize = 27840;
+
+// The slots of its keys.
+const SLOT_WORDS: usize = 107264;
+
+// The entries of a stack and of the sums below it.
+const STACK_WORDS: usize = 5152;
 
 // The bytes of an OPB text, the ids of 512 assumptions and a proof text.
 const JOINED_BYTES: usize = 67476;
@@ -71,22 +95,37 @@ const IDS: [u8; 1940] = *b"\
     c502c503c504c505c506c507c508c509c510c511c512";
 
 // ---- answers
-// The answer of command k: an assumption is accepted, a step is answered by its rule.
+// The answer of a pol line by its number: plain where it succeeds.
+fn answer_pol(number: u8) -> Answer
+    ensures { λ r. ⌜ answerOf r ≡ answered number ⌝ }
+{
+    if number == 0 {
+        return Answer::Accepted(true);
+    }
+    Answer::Refused(number)
+}
+
+// The answer of command k: an assumption is accepted, a step is answered by its rule, a pol line by the number that it has.
 fn answer_of(
     nodes: &[u32],
     commands: &[u16],
     n: usize,
     k: usize,
+    number: u8,
     coeffs: &mut [i64],
     keys: &mut [u32],
     slots: &mut [u16],
 ) -> Answer
     requires { ⌜ Filed (now nodes) (now commands) n × (k < n) ⌝ }
     requires { ⌜ Rooms (now nodes) (now coeffs) (now keys) (now slots) ⌝ }
-    ensures { λ r. ⌜ AnswerIs (now (nodes .entry)) (now (commands .entry)) n k r ⌝ }
+    ensures { λ r. ⌜ AnswerIs (now (nodes .entry)) (now (commands .entry)) n k number r ⌝ }
 {
-    if word_of(commands, k, KIND_WORD) == 0 {
+    let kind = word_of(commands, k, KIND_WORD);
+    if kind == 0 {
         return Answer::Accepted(true);
+    }
+    if kind == POL_KIND {
+        return answer_pol(number);
     }
     check_step(nodes, commands, k, coeffs, keys, slots)
 }
@@ -109,7 +148,7 @@ fn put_answer(numbers: &mut [u8], plains: &mut [bool], k: usize, answer: Answer)
     }
 }
 
-// The answers of all n commands, with the arrays that sums are made in.
+// The answers of all n commands, with the arrays that sums are made in; the numbers of pol lines stand there before.
 fn answer_all(
     nodes: &[u32],
     commands: &[u16],
@@ -123,11 +162,12 @@ fn answer_all(
     requires { ⌜ Filed (now nodes) (now commands) n ⌝ }
     requires { ⌜ (n ≤ length (now numbers)) × (n ≤ length (now plains)) ⌝ }
     requires { ⌜ Rooms (now nodes) (now coeffs) (now keys) (now slots) ⌝ }
-    ensures { λ _. ⌜ AnswersAre (now (nodes .entry)) (now (commands .entry)) n n (now (numbers .exit)) (now (plains .exit)) ⌝ }
+    ensures { λ _. ⌜ AnswersAre (now (nodes .entry)) (now (commands .entry)) n n (now (numbers .entry)) (now (numbers .exit)) (now (plains .exit)) ⌝ }
 {
     let mut k = 0;
     while k < n {
-        let answer = answer_of(nodes, commands, n, k, coeffs, keys, slots);
+        let number = numbers[k];
+        let answer = answer_of(nodes, commands, n, k, number, coeffs, keys, slots);
         put_answer(numbers, plains, k, answer);
         k += 1;
     }
@@ -143,7 +183,7 @@ fn answer_commands(
 )
     requires { ⌜ Filed (now nodes) (now commands) n × (capacity (now nodes) ≤ maxNodes) ⌝ }
     requires { ⌜ (n ≤ length (now numbers)) × (n ≤ length (now plains)) ⌝ }
-    ensures { λ _. ⌜ AnswersAre (now (nodes .entry)) (now (commands .entry)) n n (now (numbers .exit)) (now (plains .exit)) ⌝ }
+    ensures { λ _. ⌜ AnswersAre (now (nodes .entry)) (now (commands .entry)) n n (now (numbers .entry)) (now (numbers .exit)) (now (plains .exit)) ⌝ }
 {
     let mut coeffs = [0i64; ENTRIES];
     let mut keys = [0u32; ENTRIES];
@@ -177,30 +217,97 @@ fn all_hold(marks: &[bool], premises: &[u32]) -> bool
     true
 }
 
-// Whether command k holds: an assumption when it is a statement; a step when accepted, plain and each cited premise holds.
-fn holds(nodes: &[u32], commands: &[u16], n: usize, k: usize, plain: bool, marks: &[bool]) -> bool
-    requires { ⌜ Filed (now nodes) (now commands) n × (k < n) × (k ≤ length (now marks)) ⌝ }
-    ensures { λ r. ⌜ HoldsIs (now (nodes .entry)) (now (commands .entry)) n k plain (now (marks .entry)) r ⌝ }
+// Whether what a word of pol line k pushes is marked, where it is the id of a command above it.
+fn push_holds(
+    text: &[u8],
+    commands: &[u16],
+    all: usize,
+    k: usize,
+    head: PolHead,
+    marks: &[bool],
+) -> bool
+    requires { ⌜ Ids (now text) (now commands) all × (k ≤ all) × (k ≤ length (now marks)) × HeadIn (now text) head ⌝ }
+    ensures { λ r. ⌜ PushIs (now (text .entry)) (now (commands .entry)) k head (now (marks .entry)) r ⌝ }
 {
-    if word_of(commands, k, KIND_WORD) == 0 {
+    match head {
+        PolHead::Plain(from, to) => {
+            let j = place_of(text, commands, ID_INDEX, all, from, to);
+            if j < k {
+                return marks[j];
+            }
+            true
+        }
+        PolHead::Negated(_, _) => true,
+        PolHead::Add(_) => true,
+        PolHead::Saturate(_) => true,
+        PolHead::Times(_, _, _) => true,
+        PolHead::Over(_, _, _) => true,
+        PolHead::NoWord(_, _) => true,
+    }
+}
+
+// Whether each id that pol line k pushes is marked: its words are read again, from behind its id on.
+fn pushes_hold(text: &[u8], commands: &[u16], all: usize, k: usize, marks: &[bool]) -> bool
+    requires { ⌜ Ids (now text) (now commands) all × (k < all) × (k ≤ length (now marks)) × PolRead (now text) (now commands) k ⌝ }
+    ensures { λ r. ⌜ PushesAre (now (text .entry)) (now (commands .entry)) k (now (marks .entry)) r ⌝ }
+{
+    let mut i = text.len() - wide_short(commands[2 * k + 1]);
+    loop {
+        let head = pol_word(text, i);
+        if !push_holds(text, commands, all, k, head, marks) {
+            return false;
+        }
+        i = behind(head);
+        if closes(text, i) != 0 {
+            return true;
+        }
+    }
+}
+
+// Whether command k holds: an assumption when it is a statement; a step when accepted, plain and each cited premise holds; a pol line when it
+// succeeds and each id that it pushes holds.
+fn holds(
+    text: &[u8],
+    nodes: &[u32],
+    commands: &[u16],
+    n: usize,
+    k: usize,
+    plain: bool,
+    marks: &[bool],
+) -> bool
+    requires { ⌜ File (now text) (now nodes) (now commands) n × (k < n) × (k ≤ length (now marks)) ⌝ }
+    ensures { λ r. ⌜ HoldsIs (now (text .entry)) (now (nodes .entry)) (now (commands .entry)) k plain (now (marks .entry)) r ⌝ }
+{
+    let kind = word_of(commands, k, KIND_WORD);
+    if kind == 0 {
         let clause = part_of(nodes, commands, k, CLAUSE_WORD);
         return is_statement(nodes, clause[0]);
     }
     if !plain {
         return false;
     }
+    if kind == POL_KIND {
+        return pushes_hold(text, commands, n, k, marks);
+    }
     all_hold(marks, part_of(nodes, commands, k, PREMISES_WORD))
 }
 
 // The marks of all n commands, from above to below.
-fn mark_commands(nodes: &[u32], commands: &[u16], n: usize, plains: &[bool], marks: &mut [bool])
-    requires { ⌜ Filed (now nodes) (now commands) n ⌝ }
+fn mark_commands(
+    text: &[u8],
+    nodes: &[u32],
+    commands: &[u16],
+    n: usize,
+    plains: &[bool],
+    marks: &mut [bool],
+)
+    requires { ⌜ File (now text) (now nodes) (now commands) n ⌝ }
     requires { ⌜ (n ≤ length (now plains)) × (n ≤ length (now marks)) ⌝ }
-    ensures { λ _. ⌜ MarksAre (now (nodes .entry)) (now (commands .entry)) n n (now (plains .entry)) (now (marks .exit)) ⌝ }
+    ensures { λ _. ⌜ MarksAre (now (text .entry)) (now (nodes .entry)) (now (commands .entry)) n n (now (plains .entry)) (now (marks .exit)) ⌝ }
 {
     let mut k = 0;
     while k < n {
-        let held = holds(nodes, commands, n, k, plains[k], marks);
+        let held = holds(text, nodes, commands, n, k, plains[k], marks);
         marks[k] = held;
         k += 1;
     }
@@ -234,27 +341,85 @@ fn refuted_by(nodes: &[u32], commands: &[u16], n: usize, marks: &[bool]) -> bool
 }
 
 // ---- the report
-// Writes the report of a file in the tables: answers, marks, whether it is refuted, then the lines.
-fn report_file(text: &[u8], nodes: &[u32], commands: &[u16], n: usize, report: &mut [u8]) -> usize
-    requires { ⌜ File (now text) (now nodes) (now commands) n × (minReport ≤ length (now report)) × (capacity (now nodes) ≤ maxNodes) ⌝ }
+// Writes the report of a file that is answered: marks, whether it is refuted, then the lines.
+fn report_answered(
+    text: &[u8],
+    nodes: &[u32],
+    commands: &[u16],
+    n: usize,
+    numbers: &[u8],
+    plains: &[bool],
+    report: &mut [u8],
+) -> usize
+    requires { ⌜ File (now text) (now nodes) (now commands) n × (minReport ≤ length (now report)) ⌝ }
+    requires { ⌜ (n ≤ length (now numbers)) × (n ≤ length (now plains)) ⌝ }
+    requires { ⌜ AnsweredBy (now text) (now nodes) (now commands) n (now numbers) (now plains) ⌝ }
+    ensures { λ r. ⌜ Wrote (now (report .entry)) 0 (reportLines (commandLines (now (text .entry)) (now (nodes .entry)) (now (commands .entry)) n)) (now (report .exit)) r ⌝ }
+{
+    let mut marks = [false; MAX_COMMANDS];
+    mark_commands(text, nodes, commands, n, plains, &mut marks);
+    let refuted = refuted_by(nodes, commands, n, &marks);
+    write_report(report, text, commands, n, numbers, plains, &marks, refuted)
+}
+
+// Writes the report of a file in the tables that has no pol line: answers, then the rest.
+fn report_plain(text: &[u8], nodes: &[u32], commands: &[u16], n: usize, report: &mut [u8]) -> usize
+    requires { ⌜ File (now text) (now nodes) (now commands) n × NoPols (now commands) n × (minReport ≤ length (now report)) × (capacity (now nodes) ≤ maxNodes) ⌝ }
     ensures { λ r. ⌜ Wrote (now (report .entry)) 0 (reportLines (commandLines (now (text .entry)) (now (nodes .entry)) (now (commands .entry)) n)) (now (report .exit)) r ⌝ }
 {
     let mut numbers = [0u8; MAX_COMMANDS];
     let mut plains = [false; MAX_COMMANDS];
-    let mut marks = [false; MAX_COMMANDS];
     answer_commands(nodes, commands, n, &mut numbers, &mut plains);
-    mark_commands(nodes, commands, n, &plains, &mut marks);
-    let refuted = refuted_by(nodes, commands, n, &marks);
-    write_report(
-        report,
+    report_answered(text, nodes, commands, n, &numbers, &plains, report)
+}
+
+// Writes the report of what the reader made of a text with pol lines: they are run over a copy of the nodes in a larger table, where their clauses
+// stand behind those of the file; then answers and the rest over that table. Called from two places, it is no part of a frame of a text without them.
+fn report_pols(
+    text: &[u8],
+    nodes: &[u32],
+    commands: &mut [u16],
+    n: usize,
+    used: usize,
+    children: usize,
+    report: &mut [u8],
+) -> usize
+    requires { ⌜ TakenSome (now text) (now nodes) (now commands) n used children × (minReport ≤ length (now report)) × (capacity (now nodes) ≤ maxNodes) ⌝ }
+    ensures { λ r. ⌜ Wrote (now (report .entry)) 0 (reportLines (commandLines (now (text .entry)) (now (nodes .entry)) (now (commands .entry)) n)) (now (report .exit)) r ⌝ }
+{
+    let mut table = [0u32; TABLE_WORDS];
+    let mut names = [0u16; NAME_WORDS];
+    let mut coeffs = [0i64; STACK_WORDS];
+    let mut keys = [0u32; STACK_WORDS];
+    let mut slots = [0u16; SLOT_WORDS];
+    let mut numbers = [0u8; MAX_COMMANDS];
+    let mut plains = [false; MAX_COMMANDS];
+    widen(nodes, &mut table, used, children);
+    index_names(text, &table, &mut names, used);
+    run_lines(
         text,
+        &mut table,
+        commands,
+        &mut names,
+        &mut coeffs,
+        &mut keys,
+        &mut slots,
+        &mut numbers,
+        n,
+        used,
+        children,
+    );
+    answer_all(
+        &table,
         commands,
         n,
-        &numbers,
-        &plains,
-        &marks,
-        refuted,
-    )
+        &mut numbers,
+        &mut plains,
+        &mut coeffs,
+        &mut keys,
+        &mut slots,
+    );
+    report_answered(text, &table, commands, n, &numbers, &plains, report)
 }
 
 // Reads a text and writes its report.
@@ -263,7 +428,12 @@ fn report_text(text: &[u8], nodes: &mut [u32], commands: &mut [u16], report: &mu
     ensures { λ r. ⌜ Wrote (now (report .entry)) 0 (reportOf (now (text .entry))) (now (report .exit)) r ⌝ }
 {
     match read_file(text, nodes, commands) {
-        Whole::All(n, _, _) => report_file(text, nodes, commands, n, report),
+        Whole::All(n, used, children, pols) => {
+            if pols == 0 {
+                return report_plain(text, nodes, commands, n, report);
+            }
+            report_pols(text, nodes, commands, n, used, children, report)
+        }
         Whole::Refused(number, byte) => write_refusal(report, number, byte),
         Whole::Small => 0,
     }
@@ -317,7 +487,12 @@ fn report_joined(
     ensures { λ r. ⌜ Wrote (now (report .entry)) 0 (reportBoth (now (opb .entry)) (now (text .entry))) (now (report .exit)) r ⌝ }
 {
     match read_both(opb, text, string, nodes, commands) {
-        Whole::All(n, _, _) => report_file(string, nodes, commands, n, report),
+        Whole::All(n, used, children, pols) => {
+            if pols == 0 {
+                return report_plain(string, nodes, commands, n, report);
+            }
+            report_pols(string, nodes, commands, n, used, children, report)
+        }
         Whole::Refused(number, byte) => write_refusal(report, number, byte),
         Whole::Small => 0,
     }

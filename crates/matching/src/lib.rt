@@ -80,6 +80,15 @@ pub const TOO_MANY_SUMMANDS: u8 = 40;
 
 pub const NO_LINK: u8 = 41;
 
+// A pol line whose stack runs short, overflows or, after all words, has not one entry.
+pub const MISCOUNTED: u8 = 52;
+
+// A pol line in which, after a word and its reduction, a number is beyond the numeral range or an entry beyond 64 literals.
+pub const BEYOND: u8 = 53;
+
+// A pol line that pushes an id whose clause is no inequality over names, or whose word fails a rule's check of signs.
+pub const UNFIT: u8 = 54;
+
 // The answer of a step: accepted with the mark plain, or refused with document 01's number.
 pub enum Answer {
     Accepted(bool),

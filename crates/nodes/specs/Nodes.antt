@@ -131,3 +131,8 @@ pub record Kept (t u : List ℕ) (n c : ℕ) : Type 0 where
   pub long : length u ≡ length t
   pub nodes : (j : ℕ) → j < 3 * n → getD u j 0 ≡ getD t j 0
   pub children : (j : ℕ) → j < c → getD u (childBase t + j) 0 ≡ getD t (childBase t + j) 0
+
+-- the first n nodes and c child words of the table t stand in the table u, which may have another length
+pub record Moved (t u : List ℕ) (n c : ℕ) : Type 0 where
+  pub nodes : (j : ℕ) → j < 3 * n → getD u j 0 ≡ getD t j 0
+  pub children : (j : ℕ) → j < c → getD u (childBase u + j) 0 ≡ getD t (childBase t + j) 0

@@ -15,7 +15,7 @@ use lexer::magnitude;
 use lexer::same;
 ghost use mathlib.Core.Path.{_≡_};
 ghost use mathlib.Core.Bool.{true, false, cond, not};
-ghost use Prim.Native.Nat.{suc, _+_, _*_, _≤_, _<_};
+ghost use Prim.Native.Nat.{suc, _+_, _*_, _^_, _≤_, _<_};
 ghost use lib.Dec.{eqb};
 ghost use lib.IntN.{pos};
 ghost use lib.ListN.{length, drop, getD};
@@ -437,8 +437,8 @@ fn counted(g: usize, d: bool) -> usize
 }
 
 // Writes summand q, while there is room.
-fn store_summand(summands: &mut [u32], q: usize, m: bool, v: u32, d: bool, n: usize, t: usize)
-    requires { ⌜ (summandWords ≤ length (now summands)) × (n ≤ maxText) × (t ≤ maxText) ⌝ }
+pub fn store_summand(summands: &mut [u32], q: usize, m: bool, v: u32, d: bool, n: usize, t: usize)
+    requires { ⌜ (summandWords ≤ length (now summands)) × (n < 2 ^ 32) × (t < 2 ^ 32) ⌝ }
     ensures { λ _. ⌜ now (summands .exit) ≡ putSummand (now (summands .entry)) q m v d n t ⌝ }
 {
     if STORED_SUMMANDS <= q {

@@ -20,7 +20,7 @@ use Rattle.nodes.specs.Nodes.{childrenAt, decode, Below}
 use Rattle.terms.specs.Index.{Fresh, Indexed}
 use Rattle.terms.specs.Reading.{Grown}
 use Rattle.terms.specs.Spans.{maxJoined, maxShort, stringAt, Spans}
-use Rattle.reader.specs.Commands.{idIndex, allWords, partAt, commandAs, commandOf, commandsOf, CommandIn, Put}
+use Rattle.reader.specs.Commands.{idIndex, allWords, wordAt, kindWord, partAt, polKind, PolRead, commandAs, commandOf, commandsOf, CommandIn, Put}
 use Rattle.reader.proofs.Words.{id-same, string-put, put-short, put-spans, commands-more, one-more}
 use Rattle.opb.specs.Counts.{resulting, negations, inequalityNodes}
 use Rattle.opb.specs.Summands.{summandsOf}
@@ -83,6 +83,9 @@ module _ {j a t u w x v y z : List ℕ} {d : Bool} {q k n m from to : ℕ} {b : 
     given = rw (Q .arguments, Q .given) tt;
   }
 
+  no-pol : wordAt x k kindWord ≡ polKind → PolRead j x k
+  no-pol z = let e : 0 ≡ polKind = sym (Q .kinds) ∙ z in let n : ⊥ = omega arith in absurd n
+
   named : (i : ℕ) → i < k + 1 → stringAt j x i ≡ constraintId (suc i)
   named i h = go (decLt i k)
     where
@@ -92,7 +95,7 @@ module _ {j a t u w x v y z : List ℕ} {d : Bool} {q k n m from to : ℕ} {b : 
 
   added : commandsOf j u x (k + 1) ≡ commandsOf j t w k ++ (assume (constraintId (suc k)) (termOf j a d q b) ∷ [])
   added =
-      one-more (S .table) (S .commands) (grown .kept) (grown .more) (grown .wider) (Q .same) few spans short this
+      one-more (S .table) (S .commands) (grown .kept) (grown .more) (grown .wider) (Q .same) few spans short this no-pol
       ∙ ap (λ (c : Command). commandsOf j t w k ++ (c ∷ [])) says
 
   counted : nodes (termOf j a d q b) ≡ inequalityNodes q (negations (summandsOf j a q)) → allNodes (commandsOf j u x (k + 1)) ≡ m
@@ -108,7 +111,7 @@ module _ {j a t u w x v y z : List ℕ} {d : Bool} {q k n m from to : ℕ} {b : 
       table = grown .table;
       names = grown .names;
       stack = rw long (S .stack);
-      commands = commands-more (S .table) (S .commands) (grown .kept) (grown .more) (grown .wider) (Q .same) few spans short this;
+      commands = commands-more (S .table) (S .commands) (grown .kept) (grown .more) (grown .wider) (Q .same) few spans short this no-pol;
       indexed = X;
       named = named;
       nodes = counted e;

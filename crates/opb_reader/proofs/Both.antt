@@ -1,6 +1,6 @@
 -- Both texts: the OPB text's assumptions, and the proof text where it stands behind them in one string.
 use mathlib.Core.Path.{_≡_, sym, ap, ap₂, subst, _∙_}
-use mathlib.Core.List.{List, [], _++_, append-assoc}
+use mathlib.Core.List.{List, [], _++_, append-assoc, append-nil}
 use Prim.Native.Nat.{ℕ, _+_, _-_, _≤_, _<_}
 use native.Mathlib.Omega.{arith}
 use borrow.Author.Tests.{le-leb, lt-leb}
@@ -9,8 +9,9 @@ use Rattle.calculus.specs.Commands.{enough, Read, whole, refused, commands, rea
 use Rattle.calculus.specs.OpbReport.{onOpb, readBoth}
 use Rattle.calculus.specs.OpbWriting.{assumptions}
 use Rattle.calculus.specs.Terms.{Command}
-use Rattle.calculus.specs.Limits.{maxText, maxCommands, allNodes}
+use Rattle.calculus.specs.Limits.{maxText, maxCommands, allNodes, polLines}
 use Rattle.theorems.proofs.Offset.{laterRead, read-behind}
+use Rattle.theorems.proofs.OpbIds.{pols-behind}
 use Rattle.terms.specs.Spans.{maxJoined}
 use Rattle.reader.specs.Commands.{commandsOf}
 use Rattle.reader.specs.Reading.{Begun, ReadsBehind}
@@ -88,8 +89,13 @@ module _ {o s j t w : List ℕ} (B : BothReady o s j t w) where
       pub both-inside : length s ≤ length j
       both-inside = omega (arith, size, ap length all-kept)
 
+      -- no assumption is a pol line
+      no-pols : polLines (commandsOf j u x k) ≡ 0
+      unfolding polLines
+      no-pols = let ks = model .ks in ap polLines (model .are ∙ sym (append-nil (assumptions ks))) ∙ pols-behind ks []
+
       -- what read_commands asks
-      pub both-begun : Begun j u x v y (length j - length s) k n n
+      pub both-begun : Begun j u x v y (length j - length s) k n n 0
       both-begun =
           let S = model .standing in
           record {
@@ -104,6 +110,7 @@ module _ {o s j t w : List ℕ} (B : BothReady o s j t w) where
             };
             commands = S .commands;
             indexed = S .indexed;
+            pols = sym no-pols;
           }
 
       split : j ≡ (o ++ ids) ++ s
@@ -123,10 +130,10 @@ module _ {o s j t w : List ℕ} (B : BothReady o s j t w) where
           ∙ ap₂ laterRead (sym start) (sym behind)
 
       module _ (u' x' : List ℕ) (f : Whole) (R : ReadsBehind j u u' x x' (length j - length s) k n n f) where
-        pub both-all : (l m c : ℕ) → f ≡ All l m c → BothIs o s j u' x' (All l m c)
-        both-all l m c e =
-            let (p, T, F, N, C) = subst (ReadsBehind j u u' x x' (length j - length s) k n n) e R in
-            (later-whole (length j - length s) (readBoth o s) (commandsOf j u' x' l) (sym read-there ∙ p), T, F, N, C)
+        pub both-all : (l m c i : ℕ) → f ≡ All l m c i → BothIs o s j u' x' (All l m c i)
+        both-all l m c i e =
+            let (p, T, F, N, C, P, X) = subst (ReadsBehind j u u' x x' (length j - length s) k n n) e R in
+            (later-whole (length j - length s) (readBoth o s) (commandsOf j u' x' l) (sym read-there ∙ p), T, F, N, C, P, X)
 
         refusal : (e b : ℕ) → f ≡ Refused e b → (readBoth o s ≡ refused e (b - (length j - length s))) × (length j - length s ≤ b)
         refusal e b g =

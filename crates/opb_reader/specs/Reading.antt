@@ -9,11 +9,11 @@ use Rattle.calculus.specs.OpbReading.{constraints, refusedAt, readOpb}
 use Rattle.calculus.specs.OpbReport.{readBoth}
 use Rattle.calculus.specs.OpbWriting.{Constraint, assumptions}
 use Rattle.calculus.specs.Report.{minTable}
-use Rattle.calculus.specs.Limits.{maxText, maxNodes, maxCommands}
+use Rattle.calculus.specs.Limits.{maxText, maxNodes, maxCommands, polLines}
 use Rattle.nodes.specs.Nodes.{Table, Firsts, Named}
-use Rattle.terms.specs.Index.{hashes}
+use Rattle.terms.specs.Index.{hashes, Indexed}
 use Rattle.terms.specs.Spans.{maxJoined}
-use Rattle.reader.specs.Commands.{allWords, commandsOf, Commands}
+use Rattle.reader.specs.Commands.{idIndex, allWords, commandsOf, Commands}
 use Rattle.reader.specs.declared.Whole.{Whole}
 use Rattle.reader.specs.declared.Whole.the-variants.{All, Refused, Small}
 use Rattle.opb.specs.Counts.{negations, inequalityNodes}
@@ -66,8 +66,8 @@ abbrev pub OpbIs : (o j u x v y : List ℕ) → Model → Type 0
 OpbIs o j u x v y (Assumed k n) = IsModel o j u x v y k n
 OpbIs o j u x v y (Not e b) = readOpb o ≡ refusedAt e b
 
--- both texts are read: all commands are in the tables u and x, over the string j; or one is refused, by a byte of its own
+-- both texts are read: all commands, p pol lines among them, are in the tables u and x, over the string j; or one is refused, by a byte of its own
 abbrev pub BothIs : (o s j u x : List ℕ) → Whole → Type 0
-BothIs o s j u x (All k n c) = (readBoth o s ≡ whole (commandsOf j u x k)) × Table u n c × Firsts u n × Named j u n × Commands j u x k n c
+BothIs o s j u x (All k n c p) = (readBoth o s ≡ whole (commandsOf j u x k)) × Table u n c × Firsts u n × Named j u n × Commands j u x k n c × (p ≡ polLines (commandsOf j u x k)) × Indexed j x idIndex k
 BothIs o s j u x (Refused e b) = readBoth o s ≡ refused e b
 BothIs o s j u x Small = ⊥

@@ -245,7 +245,7 @@ pub fn read_both(
                 n,
             ) {
                 Whole::Refused(e, b) => Whole::Refused(e, b - start),
-                Whole::All(l, m, c) => Whole::All(l, m, c),
+                Whole::All(l, m, c, p) => Whole::All(l, m, c, p),
                 Whole::Small => Whole::Small,
             }
         }

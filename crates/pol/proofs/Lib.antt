@@ -5,3 +5,6 @@ pub mod Ranges
 pub mod Keeping
 pub mod Summing
 pub mod Working
+pub mod Tops
+pub mod Pushing
+pub mod Literals

@@ -80,7 +80,8 @@ module _ (cs : List ℤ) (n : ℕ) (c : ℤ) where
   fits-rest h e R d ks = rw (entries-length d cs ks n, le-leb n maxLiterals h, e) (R d ks)
 
 -- ---- numbers of an entry that is not too large
-all-at : (P : Entry → Bool) (f : ℕ → Entry) (i n j : ℕ) → all P (run f i n) ≡ true → j < n → P (f (i + j)) ≡ true
+-- what is so of all is so of each
+pub all-at : (P : Entry → Bool) (f : ℕ → Entry) (i n j : ℕ) → all P (run f i n) ≡ true → j < n → P (f (i + j)) ≡ true
 unfolding run all
 all-at P f i zero j e h = let z : ⊥ = omega arith in absurd z
 all-at P f i (suc n) zero e h = let z : i + 0 ≡ i = omega arith in rw z (is-true (P (f i)) (and-l (P (f i)) (all P (run f (suc i) n)) (subst T (sym e) tt)))

@@ -33,6 +33,15 @@ stack-two f cs ks d h =
     let e : d - 1 - 1 ≡ d - 2 = omega arith in
     stack-one f cs ks d (omega arith) ∙ ap (λ (l : List Inequality). inequalityOf f (window (d - 1) cs) (window (d - 1) ks) ∷ l) (stack-one f cs ks (d - 1) (omega arith) ∙ rw e)
 
+-- an entry that got no number is not too large
+pub kept-fitting : (cs : List ℤ) (n : ℕ) (c : ℤ) → _≡_ {A = ℕ} (cond (fitsEntry (record { sum = entries (λ i. num (pos 0)) cs [] n; const = c })) 0 53) 0
+    → T (fitsEntry (record { sum = entries (λ i. num (pos 0)) cs [] n; const = c }))
+kept-fitting cs n c e = go (fitsEntry (record { sum = entries (λ i. num (pos 0)) cs [] n; const = c })) e
+  where
+    go : (b : Bool) → _≡_ {A = ℕ} (cond b 0 53) 0 → T b
+    go true e = tt
+    go false e = let z : ⊥ = omega arith in absurd z
+
 -- ---- `+`
 pub two-short : (t : List ℕ) (cs : List ℤ) (ks : List ℕ) (d e : ℕ) → d < 2 → WorkedIs t onTwo cs ks d cs ks e 52
 unfolding stackOf onTwo resOf
@@ -50,11 +59,7 @@ module _ {t : List ℕ} {cs bs ds : List ℤ} {ks js ls : List ℕ} {d r : ℕ} 
 
   module _ (zero-is : r ≡ 0) where
     fitting : T (fitsEntry (record { sum = entries (λ i. num (pos 0)) (placed rightAt bs) [] (s .count); const = s .constant }))
-    fitting = go (fitsEntry (record { sum = entries (λ i. num (pos 0)) (placed rightAt bs) [] (s .count); const = s .constant })) (sym (P .number (λ i. num (pos 0)) []) ∙ zero-is)
-      where
-        go : (b : Bool) → _≡_ {A = ℕ} (cond b 0 53) 0 → T b
-        go true e = tt
-        go false e = let z : ⊥ = omega arith in absurd z
+    fitting = kept-fitting (placed rightAt bs) (s .count) (s .constant) (sym (P .number (λ i. num (pos 0)) []) ∙ zero-is)
 
     few : s .count ≤ maxLiterals
     few = fits-few (placed rightAt bs) (s .count) (s .constant) fitting

@@ -8,10 +8,10 @@ use lib.IntN.{ℤ, pos}
 use lib.ListN.{length, getD}
 use Rattle.integer.specs.Integers.{Within}
 use Rattle.calculus.specs.Entries.{Inequality}
-use Rattle.calculus.specs.Pol.{maxStack, maxLiterals, inRange, fitsEntry, added}
+use Rattle.calculus.specs.Pol.{maxStack, maxLiterals, inRange, fitsEntry, added, mapped}
 use Rattle.calculus.specs.Sums.{all}
 use Rattle.calculus.specs.Terms.{Term}
-use Rattle.calculus.specs.Words.{Res, maxNumeral}
+use Rattle.calculus.specs.Words.{Res, ok, maxNumeral}
 use Rattle.matching.specs.Entries.{entries, Under, Literals}
 use Rattle.matching.specs.Matched.{Text, term}
 use Rattle.matching.specs.Places.{maxEntries, part, placed}
@@ -126,3 +126,23 @@ pub record WorkedIs (t : List ℕ) (word : List Inequality → Res (List Inequal
   pub is : (x : Text t) → StackUnder (x .n) ks d → word (stackOf (term x) cs ks d) ≡ resOf r (stackOf (term x) ds ls e)
   pub stack : r ≡ 0 → Stack t ds ls e
   pub under : r ≡ 0 → (m : ℕ) → StackUnder m ks d → StackUnder m ls e
+
+-- ---- words on the top
+-- the arrays hold a stack of d entries over some table
+abbrev pub Stacked : List ℤ → List ℕ → ℕ → Type 0
+Stacked cs ks d = (t : List ℕ) × Stack t cs ks d
+
+-- each number of entry e, which has n literals, became what f makes of it; what stands below it is as it was
+pub record MappedAt (f : ℤ → ℤ) (cs : List ℤ) (e n : ℕ) (ds : List ℤ) : Type 0 where
+  pub long : length ds ≡ length cs
+  pub below : (j : ℕ) → j < baseOf e → getD ds j (pos 0) ≡ getD cs j (pos 0)
+  pub coefficients : (i : ℕ) → i < n → getD ds (baseOf e + i) (pos 0) ≡ f (getD cs (baseOf e + i) (pos 0))
+  pub constant : getD ds (baseOf e + maxLiterals) (pos 0) ≡ f (getD cs (baseOf e + maxLiterals) (pos 0))
+
+-- f of each number of an entry, and no check
+abbrev pub mapsTo : (ℤ → ℤ) → Inequality → Res Inequality
+mapsTo f q = ok (mapped f q)
+
+-- a word on the top of d entries, over every table that they are over
+abbrev pub TopIs : (word : List Inequality → Res (List Inequality)) (cs : List ℤ) (ks : List ℕ) (d : ℕ) (ds : List ℤ) (r : ℕ) → Type 0
+TopIs word cs ks d ds r = (t : List ℕ) → Stack t cs ks d → WorkedIs t word cs ks d ds ks d r

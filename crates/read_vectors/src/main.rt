@@ -115,7 +115,7 @@ fn put_refusal(number: u8, byte: usize) {
 // Reads a text into the lent tables and prints what was read.
 fn put_read(text: &[u8], nodes: &mut [u32], commands: &mut [u16]) {
     match read_file(text, nodes, commands) {
-        Whole::All(k, n, c) => put_tables(nodes, commands, k, n, c),
+        Whole::All(k, n, c, _) => put_tables(nodes, commands, k, n, c),
         Whole::Refused(number, byte) => put_refusal(number, byte),
         Whole::Small => {}
     }

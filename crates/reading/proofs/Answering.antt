@@ -24,16 +24,16 @@ first-words : (u v : List ℕ) → length u ≡ minTable → take minTable (u ++
 first-words u v e = take-at u v minTable e
 
 -- three words of the answer
-counted : (s t u w x a : List ℕ) (k n c : ℕ) → Lent t w a → ReadsFile s (take minTable t) (take minTable u) w x (All k n c) → Answers s t u w x a (set (set (set a 0 k) 1 n) 2 c) 0
+counted : (s t u w x a : List ℕ) (k n c p : ℕ) → Lent t w a → ReadsFile s (take minTable t) (take minTable u) w x (All k n c p) → Answers s t u w x a (set (set (set a 0 k) 1 n) 2 c) 0
 unfolding Answers
-counted s t u w x [] k n c l h = let z : ⊥ = omega (arith, l .answer) in absurd z
-counted s t u w x (p ∷ []) k n c l h = let z : ⊥ = omega (arith, l .answer) in absurd z
-counted s t u w x (p ∷ (q ∷ [])) k n c l h = let z : ⊥ = omega (arith, l .answer) in absurd z
-counted s t u w x (p ∷ (q ∷ (r ∷ a))) k n c l h = (l, h)
+counted s t u w x [] k n c i l h = let z : ⊥ = omega (arith, l .answer) in absurd z
+counted s t u w x (p ∷ []) k n c i l h = let z : ⊥ = omega (arith, l .answer) in absurd z
+counted s t u w x (p ∷ (q ∷ [])) k n c i l h = let z : ⊥ = omega (arith, l .answer) in absurd z
+counted s t u w x (p ∷ (q ∷ (r ∷ a))) k n c i l h = (l, i, h)
 
 -- the text is read
-pub read : (s t p u v w x a : List ℕ) (r : Whole) (k n c : ℕ) → Lent t w a → length u ≡ minTable → ReadsFile s p u w x r → r ≡ All k n c → Answers s t (u ++ v) w x a (set (set (set a 0 k) 1 n) 2 c) 0
-read s t p u v w x a r k n c l long h e = counted s t (u ++ v) w x a k n c l (rw (first-words u v long) (subst (ReadsFile s p u w x) e h))
+pub read : (s t p u v w x a : List ℕ) (r : Whole) (k n c i : ℕ) → Lent t w a → length u ≡ minTable → ReadsFile s p u w x r → r ≡ All k n c i → Answers s t (u ++ v) w x a (set (set (set a 0 k) 1 n) 2 c) 0
+read s t p u v w x a r k n c i l long h e = counted s t (u ++ v) w x a k n c i l (rw (first-words u v long) (subst (ReadsFile s p u w x) e h))
 
 -- a refusal's number is at least 2
 numbered : (s t u w x a : List ℕ) (e p : ℕ) → 2 ≤ e → Lent t w a → readFile s ≡ refused e p → Answers s t u w x a (set a 0 p) e

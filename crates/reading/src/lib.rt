@@ -34,7 +34,7 @@ pub extern "C" fn cutting_planes_read(
         return TOO_SMALL;
     }
     match read_file(text, &mut nodes[0..NODE_WORDS], commands) {
-        Whole::All(k, n, c) => {
+        Whole::All(k, n, c, _) => {
             answer[0] = k;
             answer[1] = n;
             answer[2] = c;

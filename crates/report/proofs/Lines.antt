@@ -33,10 +33,10 @@ named p k h = record {
 past : (k : ℕ) {n : ℕ} → (n ≡ k → ⊥) → k ≤ n → suc k ≤ n
 past k f h = omega (arith, f)
 
--- the last of nine kinds is none of the others
-pub last-kind : {n : ℕ} → (n ≡ 0 → ⊥) → (n ≡ 1 → ⊥) → (n ≡ 2 → ⊥) → (n ≡ 3 → ⊥) → (n ≡ 4 → ⊥) → (n ≡ 5 → ⊥) → (n ≡ 6 → ⊥) → (n ≡ 7 → ⊥) → n ≤ 8 → n ≡ 8
-last-kind {n} a b c d e f g h most =
-    let least : 8 ≤ n = past 7 h (past 6 g (past 5 f (past 4 e (past 3 d (past 2 c (past 1 b (past 0 a zero-le))))))) in
+-- the last of ten kinds is none of the others
+pub last-kind : {n : ℕ} → (n ≡ 0 → ⊥) → (n ≡ 1 → ⊥) → (n ≡ 2 → ⊥) → (n ≡ 3 → ⊥) → (n ≡ 4 → ⊥) → (n ≡ 5 → ⊥) → (n ≡ 6 → ⊥) → (n ≡ 7 → ⊥) → (n ≡ 8 → ⊥) → n ≤ 9 → n ≡ 9
+last-kind {n} a b c d e f g h i most =
+    let least : 9 ≤ n = past 8 i (past 7 h (past 6 g (past 5 f (past 4 e (past 3 d (past 2 c (past 1 b (past 0 a zero-le)))))))) in
     omega arith
 
 -- ---- parts

@@ -1,8 +1,9 @@
 -- The lines of a run as the checker holds them: in the text, the commands' words, the answers and the marks (01, section 6).
 use mathlib.Core.Path.{_≡_}
-use mathlib.Core.Bool.{Bool, false}
+use mathlib.Core.Bool.{Bool, false, cond}
 use mathlib.Core.List.{List, [], _∷_, _++_}
 use Prim.Native.Nat.{ℕ, zero, suc, _+_, _*_, _≤_, _<_}
+use lib.Dec.{eqb}
 use lib.ListN.{length, getD}
 use Rattle.calculus.specs.Bytes.{bytes}
 use Rattle.calculus.specs.Marks.{Line, numberOf, plainOf, noLine}
@@ -11,14 +12,18 @@ use Rattle.calculus.specs.Terms.{ruleText}
 use Rattle.calculus.specs.Words.{maxName}
 use Rattle.calculus.specs.Limits.{maxCommands}
 use Rattle.heads.specs.Heads.{ruleNamed}
-use Rattle.reader.specs.Commands.{allWords, wordAt, kindWord}
+use Rattle.reader.specs.Commands.{allWords, wordAt, kindWord, polKind}
 use Rattle.terms.specs.Spans.{stringAt, Spans}
 
 -- ---- what stands for a line
--- the name of a command's kind: of an assumption, or of the rule of the number below
+-- the name of an assumption, or of the rule of the number below
+unfoldable pub stepName : ℕ → List ℕ
+stepName zero = bytes "assume"
+stepName (suc r) = ruleText (ruleNamed r)
+
+-- the name of a command's kind: that of a pol line, or one of those
 unfoldable pub nameOf : ℕ → List ℕ
-nameOf zero = bytes "assume"
-nameOf (suc r) = ruleText (ruleNamed r)
+nameOf kind = cond (eqb kind polKind) (bytes "pol") (stepName kind)
 
 -- the line l is that of a command with this name for its id and this kind, with this answer and these marks
 pub record LineHas (l : Line) (name : List ℕ) (kind answer : ℕ) (plainly held : Bool) : Type 0 where
@@ -40,14 +45,14 @@ pub record Counted (numbers : List ℕ) (n : ℕ) (ls : List Line) : Type 0 wher
   pub each : (k : ℕ) → k < n → numberOf (getD ls k noLine .answer) ≡ getD numbers k 0
 
 -- ---- what can be written
--- command k: its id is a name in the text, its kind is one of nine
+-- command k: its id is a name in the text, its kind is one of ten
 pub record IdShown (s w : List ℕ) (k : ℕ) : Type 0 where
   pub room : allWords ≤ length w
   pub few : k < maxCommands
   pub up : getD w (2 * k + 1) 0 ≤ getD w (2 * k) 0
   pub inside : getD w (2 * k) 0 ≤ length s
   pub short : getD w (2 * k) 0 ≤ getD w (2 * k + 1) 0 + maxName
-  pub kind : wordAt w k kindWord ≤ 8
+  pub kind : wordAt w k kindWord ≤ polKind
 
 -- each of the first n commands, with its answer and its marks
 pub record Printable (s w numbers : List ℕ) (plains marks : List Bool) (n : ℕ) : Type 0 where
@@ -55,7 +60,7 @@ pub record Printable (s w numbers : List ℕ) (plains marks : List Bool) (n : �
   pub few : n ≤ maxCommands
   pub ids : Spans s w n
   pub short : (j : ℕ) → j < n → getD w (2 * j) 0 ≤ getD w (2 * j + 1) 0 + maxName
-  pub kinds : (j : ℕ) → j < n → wordAt w j kindWord ≤ 8
+  pub kinds : (j : ℕ) → j < n → wordAt w j kindWord ≤ polKind
   pub numbered : n ≤ length numbers
   pub plained : n ≤ length plains
   pub marked : n ≤ length marks

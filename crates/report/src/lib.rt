@@ -10,7 +10,7 @@ ghost use Rattle.calculus.specs.Marks.{Line, refusedIn, refutedBy};
 ghost use Rattle.calculus.specs.Report.{yesNo, lineText, totalsText, refusalText, reportLines, minReport};
 ghost use Rattle.calculus.specs.Words.{decimal};
 ghost use Rattle.calculus.specs.Limits.{maxCommands};
-ghost use Rattle.reader.specs.Commands.{wordAt, kindWord};
+ghost use Rattle.reader.specs.Commands.{wordAt, kindWord, polKind};
 ghost use Rattle.terms.specs.Spans.{stringAt};
 ghost use Rattle.report.specs.Written.{Wrote};
 ghost use Rattle.report.specs.Lines.{nameOf, LineHas, LinesAre, Counted, IdShown, Printable, startText, marksText, linesText, yesRoom, ruleRoom, startRoom, marksRoom, lineRoom, totalsRoom};
@@ -74,7 +74,7 @@ fn append_yes(report: &mut [u8], at: usize, yes: bool) -> usize
 
 // Writes the name of a command's kind.
 fn append_rule(report: &mut [u8], at: usize, kind: usize) -> usize
-    requires { ⌜ kind ≤ 8 ⌝ }
+    requires { ⌜ kind ≤ polKind ⌝ }
     requires { ⌜ at + ruleRoom ≤ length (now report) ⌝ }
     ensures { λ r. ⌜ Wrote (now (report .entry)) at (nameOf kind) (now (report .exit)) r ⌝ }
     ensures { λ r. ⌜ r ≤ at + ruleRoom ⌝ }
@@ -88,7 +88,8 @@ fn append_rule(report: &mut [u8], at: usize, kind: usize) -> usize
         5 => append(report, at, b"cp_literal"),
         6 => append(report, at, b"cp_normalize"),
         7 => append(report, at, b"cp_transfer"),
-        _ => append(report, at, b"cp_part"),
+        8 => append(report, at, b"cp_part"),
+        _ => append(report, at, b"pol"),
     }
 }
 

@@ -33,7 +33,7 @@ ghost use Rattle.nodes.specs.Nodes.{Node};
 ghost use Rattle.matching.specs.Entries.{Literals};
 ghost use Rattle.matching.specs.Matched.{variableOf, Variable, AllNodes};
 ghost use Rattle.normalize.specs.Lists.{Room as Lines};
-ghost use Rattle.matching.specs.Places.{maxEntries, placed};
+ghost use Rattle.matching.specs.Places.{maxEntries, maxPlace, placed};
 ghost use Rattle.sums.specs.Lists.{Fine, Bounded, maxTotal, maxAdded};
 ghost use Rattle.sums.specs.Places.{slotted, leftAt, rightAt, conclusionAt, Listed, Keyed, Rooms};
 ghost use Rattle.rules.specs.Checked.{firstNumber, TwoAt, ThreeAt, CappedCheck, mapOf, ByIs, AgreesIs, AllAgree, CheckIs, timesTerms, overTerms, Anything, Positive, ScaledIs, CappedIs, Nonnegative, CoefficientIs, EntryIs, FaceIs, CoefficientsAre, ZerosFace, SumsAgree, AddedAt};
@@ -362,7 +362,7 @@ pub enum By {
 }
 
 // What the rule makes of a number of the premise.
-fn apply(by: By, a: i64) -> i64
+pub fn apply(by: By, a: i64) -> i64
     requires { ⌜ ByIs by ⌝ }
     requires { ⌜ Within maxTotal a ⌝ }
     ensures { λ r. ⌜ r ≡ mapOf by a ⌝ }
@@ -616,14 +616,14 @@ fn capped_terms(
     Capped::Of(clause[0], conclusion[0])
 }
 
-// Whether each of the premise's n coefficients is at least 0.
-fn nonnegative(coeffs: &[i64], n: usize) -> bool
-    requires { ⌜ (leftAt + n ≤ length (now coeffs)) × (n ≤ maxEntries) ⌝ }
-    ensures { λ r. ⌜ Nonnegative (placed leftAt (now (coeffs .entry))) n r ⌝ }
+// Whether each of the n coefficients at a place is at least 0.
+pub fn nonnegative(coeffs: &[i64], at: usize, n: usize) -> bool
+    requires { ⌜ (at ≤ maxPlace) × (at + n ≤ length (now coeffs)) × (n ≤ maxEntries) ⌝ }
+    ensures { λ r. ⌜ Nonnegative (placed at (now (coeffs .entry))) n r ⌝ }
 {
     let mut i: usize = 0;
     while i < n {
-        if integer::less(coeffs[LEFT + i], 0) {
+        if integer::less(coeffs[at + i], 0) {
             return false;
         }
         i += 1;
@@ -647,7 +647,7 @@ fn capped_check(nodes: &[u32], two: Two, coeffs: &[i64], keys: &[u32], slots: &[
     if integer::less(two.constant, 0) {
         return Answer::Refused(NEGATIVE_IN_SATURATION);
     }
-    if !nonnegative(coeffs, two.count) {
+    if !nonnegative(coeffs, LEFT, two.count) {
         return Answer::Refused(NEGATIVE_IN_SATURATION);
     }
     by_check(nodes, By::Cap(two.constant), two, coeffs, keys, slots)

@@ -6,14 +6,16 @@ use Prim.Native.Nat.{ℕ, zero, suc, _≤_}
 use native.Mathlib.Omega.{arith}
 use lib.Dec.{T, leb→le}
 use lib.IntN.{ℤ, pos, negsuc}
-use Rattle.calculus.specs.Marks.{Line, allHold, applyRule, clausesAt, contradiction, lineAt, lineOf, pick, plainOf, positive, refutedBy, run}
+use Rattle.calculus.specs.Marks.{Line, allHold, polAnswer, applyRule, clausesAt, contradiction, lineAt, lineOf, pick, plainOf, positive, refutedBy, run}
 use Rattle.calculus.specs.Matching.{asConstant, binary}
+use Rattle.calculus.specs.Pol.{givenAnswer, givenClause, pushedIds}
 use Rattle.calculus.specs.Rules.{single}
-use Rattle.calculus.specs.Terms.{Command, Rule, Term, app, assume, cons, sameInteger, ge, nil, num, addition, division, literal, multiplication, normalize, part, saturation, transfer, sameName, step}
+use Rattle.calculus.specs.Terms.{Command, Rule, Term, app, assume, cons, sameInteger, ge, nil, num, addition, division, literal, multiplication, normalize, part, pol, saturation, transfer, sameName, step, PolWord}
 use Rattle.calculus.specs.Truth.{Assignment, Models, Satisfies, isStatement, pairOf, truth, truthOp, val, vals}
 use Rattle.calculus.specs.Words.{Res, bad, ok}
 use Rattle.calculus.proofs.Booleans.{and-l, and-r}
 use Rattle.theorems.proofs.NormalizeSound.{normalize-sound}
+use Rattle.theorems.proofs.PolSound.{AllGiven, pol-sound}
 use Rattle.theorems.proofs.Reading.{asConstant-ok, binary-ok, bind-ok, ensure-ok}
 use Rattle.theorems.proofs.RulesSound.{AllSat, addition-sound, division-sound, literal-sound, multiplication-sound, part-sound, saturation-sound, single-ok, transfer-sound}
 use Rattle.calculus.proofs.TermLaws.{sameInteger-eq}
@@ -63,6 +65,18 @@ step-held σ ls c r is xs h t =
     rule-sound σ r (clausesAt ls is) xs c (plain-ok _ (and-l (plainOf (applyRule r (clausesAt ls is) xs c)) _ t))
     (held-all σ ls is h (and-r (plainOf (applyRule r (clausesAt ls is) xs c)) _ t))
 
+-- the ids that a pol line pushed hold, so their clauses are satisfied
+held-given : (σ : Assignment) (ls : List Line) (is : List (List ℕ)) → Held σ ls → T (allHold ls is) → AllGiven σ (λ d. lineAt ls d .clause) is
+unfolding allHold AllGiven
+held-given σ ls [] h t = tt
+held-given σ ls (i ∷ is) h t = (held-at σ ls i h (and-l (lineAt ls i .holds) _ t), held-given σ ls is h (and-r (lineAt ls i .holds) _ t))
+
+pol-held : (σ : Assignment) (ls : List Line) (ws : List PolWord) → Held σ ls → T (plainOf (givenAnswer (polAnswer ls ws)) && allHold ls (pushedIds ws)) → Satisfies σ (givenClause (polAnswer ls ws))
+unfolding polAnswer
+pol-held σ ls ws h t =
+    pol-sound σ (λ d. lineAt ls d .clause) ws (and-l (plainOf (givenAnswer (polAnswer ls ws))) _ t)
+    (held-given σ ls (pushedIds ws) h (and-r (plainOf (givenAnswer (polAnswer ls ws))) _ t))
+
 sat-stmt : (σ : Assignment) (t : Term) → T (isStatement t) → T (truth σ t) → Satisfies σ (t ∷ [])
 unfolding Satisfies
 sat-stmt σ t a b = (a, b)
@@ -72,6 +86,7 @@ unfolding run Models lineOf
 run-held σ ls [] h m = h
 run-held σ ls (assume d t ∷ cs) h m = run-held σ (ls ++ (lineOf ls (assume d t) ∷ [])) cs (held-add σ ls (lineOf ls (assume d t)) h (λ s. sat-stmt σ t s (m .0 s))) (m .1)
 run-held σ ls (step d c r is xs ∷ cs) h m = run-held σ (ls ++ (lineOf ls (step d c r is xs) ∷ [])) cs (held-add σ ls (lineOf ls (step d c r is xs)) h (step-held σ ls c r is xs h)) m
+run-held σ ls (pol d ws ∷ cs) h m = run-held σ (ls ++ (lineOf ls (pol d ws) ∷ [])) cs (held-add σ ls (lineOf ls (pol d ws)) h (pol-held σ ls ws h)) m
 
 -- the theorem, first half
 pub sound : (cs : List Command) (σ : Assignment) → Models σ cs → Held σ (run [] cs)

@@ -7,15 +7,18 @@ use Prim.Native.Nat.{ℕ, zero, suc, _+_, _≤_, _<_}
 use native.Mathlib.Omega.{arith}
 use lib.Dec.{T, leb, ltb, ltb→lt, leb→le}
 use lib.ListN.{length, length-append}
-use Rattle.calculus.specs.Commands.{enough, newId, premise, premises, premisesAt, argsAt, ruleAmong, ruleOf, onRule, ruleAt, assumeAt, stepAt, commandAt, Read, whole, refused, begin, halt, onLead, leadAt, onCommand, onRead, commands, readBehind, readFile}
+use Rattle.calculus.specs.Bytes.{bytes}
+use Rattle.calculus.specs.Commands.{enough, newId, premise, premises, premisesAt, argsAt, ruleAmong, ruleOf, onRule, ruleAt, assumeAt, stepAt, commandAt, Read, whole, refused, begin, halt, onLead, leadAt, onCommand, onRead, commands, readBehind, readFile, polAt, polOr}
 use Rattle.calculus.specs.Grammar.{Reads, got, off, then, sameMark, expect, nameAt, closeAt, term, items}
-use Rattle.calculus.specs.Terms.{Term, sameName, Rule, part, Command, assume, step, listed, ruleText}
+use Rattle.calculus.specs.PolGrammar.{wordsAt}
+use Rattle.calculus.specs.Terms.{Term, sameName, Rule, part, Command, assume, step, pol, listed, ruleText}
 use Rattle.calculus.specs.Words.{Res, ok, bad, Mark, opening, closing, cl-word, assume-word, step-word, rule-word, premises-word, args-word, Word, mark, operator, numeral, name, negated-name}
 use Rattle.calculus.specs.Tokens.{Token, ended, word, wrong, tokenAt}
-use Rattle.calculus.specs.Limits.{maxNodes, maxText, maxCommands, known, nodes, nodesIn, fits, fitAll, allKnown, allowed, allowedBehind, commandNodes, allNodes}
-use Rattle.calculus.specs.Writing.{termWords, termsWords, nameWords, premisesWords, argsWords, commandWords, wordsOf, Has, IsReadBehind, IsRead}
+use Rattle.calculus.specs.Limits.{maxNodes, maxText, maxCommands, known, nodes, nodesIn, fits, fitAll, allKnown, allowed, allowedBehind, commandNodes, allNodes, maxPols, polLines, someWord, allowedWords}
+use Rattle.calculus.specs.Writing.{termWords, termsWords, nameWords, premisesWords, argsWords, polWords, commandWords, wordsOf, Has, IsReadBehind, IsRead}
 use Rattle.calculus.proofs.Booleans.{and-mk}
 use Rattle.theorems.proofs.Faithful.{has-append, has-word, has-one, has-as, Took, More, written}
+use Rattle.theorems.proofs.FaithfulPol.{named-got, WordsTook, wordsAt-has}
 use Rattle.theorems.proofs.Inversion.{sameMark-eq, off-got, got-value, got-place, got-nodes, then-got, mark-got, option-got, name-got, cond-got, cond-not, item-got}
 use Rattle.calculus.proofs.TermLaws.{sameName-eq}
 
@@ -152,11 +155,13 @@ rule-got {A} s at k a t n e =
 unfoldable pub body : Command → List Word
 body (assume d x) = mark assume-word ∷ name d ∷ (termWords x ++ (mark closing ∷ []))
 body (step d c r ds xs) = mark step-word ∷ name d ∷ mark opening ∷ mark cl-word ∷ (termsWords (listed c) ++ (mark closing ∷ mark rule-word ∷ name (ruleText r) ∷ (premisesWords ds ++ (argsWords xs ++ (mark closing ∷ [])))))
+body (pol d ws) = name (bytes "pol") ∷ name d ∷ (polWords ws ++ (mark closing ∷ []))
 
 pub command-words : (c : Command) → mark opening ∷ body c ≡ commandWords c
 unfolding body commandWords
 command-words (assume d x) = refl
 command-words (step d c r ds xs) = refl
+command-words (pol d ws) = refl
 
 -- a command was read behind the commands cs
 pub record Stands (cs : List Command) (s : List ℕ) (at n : ℕ) (c : Command) (t m : ℕ) : Type 0 where
@@ -233,13 +238,33 @@ stepAt-has cs s at n q a c t m h e =
     let (k, t₄, n₄, h₄, g₄) = then-got (items enough s t₃ 1 n []) _ c t m g₃ in
     step-behind cs s at n q a d k p₁ t₁ p₂ t₂ p₃ t₃ t₄ n₄ c t m h h₁ f₁ h₂ h₃ (written enough s .some-items t₃ 1 n [] k t₄ n₄ h₄) g₄
 
+polAt-has : (cs : List Command) (s : List ℕ) (at n q a : ℕ) (c : Command) (t m : ℕ) → tokenAt s a ≡ word (name (bytes "pol")) q at → T (ltb (polLines cs) maxPols) → polAt cs s at n ≡ got c t m → Stands cs s a n c t m
+unfolding polAt body allowed commandNodes
+polAt-has cs s at n q a c t m h l e =
+    let (d, p, u, h₁, f, g) = id-got cs s at _ c t m e in
+    let (ws, v, i, g₁, g₂) = then-got (wordsAt enough (known cs) s u n) _ c t m g in
+    let r : WordsTook (known cs) s u n ws v i = wordsAt-has enough (known cs) s u n ws v i g₁ in
+    let b : Stands cs s a n (pol d ws) v i = record {
+      allow = and-mk (not (known cs d)) _ f (and-mk (ltb (polLines cs) maxPols) _ l (and-mk (someWord ws) (allowedWords (known cs) ws) (r .some) (r .allow)));
+      part = record {
+        has = has-word s (name (bytes "pol")) _ a q at v h (has-word s (name d) _ at p u v h₁ (r .has));
+        count = omega (arith, r .count);
+        room = λ z. omega (arith, r .count);
+      };
+    } in
+    stands-as cs s a n (pol d ws) c v t i m g₂ b
+
 pub commandAt-has : (cs : List Command) (s : List ℕ) (at n : ℕ) (c : Command) (t m : ℕ) → commandAt cs s at n ≡ got c t m → Stands cs s at n c t m
-unfolding commandAt expect
-commandAt-has cs s at n c t m e = go (option-got assume-word _ (expect step-word s at (λ t. stepAt cs s t n)) (tokenAt s at) c t m e)
+unfolding commandAt expect polOr
+commandAt-has cs s at n c t m e = go (option-got assume-word _ (polOr cs s at n (expect step-word s at (λ t. stepAt cs s t n))) (tokenAt s at) c t m e)
   where
-    go : ((p : ℕ) × (u : ℕ) × (tokenAt s at ≡ word (mark assume-word) p u) × (assumeAt cs s u n ≡ got c t m)) ⊎ (expect step-word s at (λ t. stepAt cs s t n) ≡ got c t m) → Stands cs s at n c t m
+    other : ((p : ℕ) × (u : ℕ) × (tokenAt s at ≡ word (name (bytes "pol")) p u) × (cond (ltb (polLines cs) maxPols) (polAt cs s u n) (off 7 p) ≡ got c t m)) ⊎ (expect step-word s at (λ t. stepAt cs s t n) ≡ got c t m) → Stands cs s at n c t m
+    other (inl (p, u, h, g)) = let (l, k) = cond-not (ltb (polLines cs) maxPols) 7 p (polAt cs s u n) c t m g in polAt-has cs s u n p at c t m h l k
+    other (inr g) = let (p, u, h, k) = mark-got step-word _ (tokenAt s at) c t m g in stepAt-has cs s u n p at c t m h k
+
+    go : ((p : ℕ) × (u : ℕ) × (tokenAt s at ≡ word (mark assume-word) p u) × (assumeAt cs s u n ≡ got c t m)) ⊎ (polOr cs s at n (expect step-word s at (λ t. stepAt cs s t n)) ≡ got c t m) → Stands cs s at n c t m
     go (inl (p, u, h, g)) = assumeAt-has cs s u n p at c t m h g
-    go (inr g) = let (p, u, h, k) = mark-got step-word _ (tokenAt s at) c t m g in stepAt-has cs s u n p at c t m h k
+    go (inr g) = other (named-got (bytes "pol") _ (expect step-word s at (λ t. stepAt cs s t n)) (tokenAt s at) c t m g)
 
 -- ---- files
 refused-whole : {e p : ℕ} {cs : List Command} → refused e p ≡ whole cs → ⊥

@@ -8,8 +8,8 @@ use lib.Dec.{T}
 use lib.IntN.{ℤ}
 use Rattle.calculus.specs.Bytes.{bytes}
 use Rattle.calculus.specs.Equality.{sameOp}
-use Rattle.calculus.specs.Grammar.{got, off, then, closeAt}
-use Rattle.calculus.specs.PolGrammar.{onFactor, namedWord, onWord, wordAt, moreWords, wordsAt}
+use Rattle.calculus.specs.Grammar.{Reads, got, off, then, closeAt}
+use Rattle.calculus.specs.PolGrammar.{onNamed, onFactor, namedWord, onWord, wordAt, moreWords, wordsAt}
 use Rattle.calculus.specs.Terms.{Op, add, mul, sameName, PolWord, line-word, plain-word, negated-word, plus-word, saturate-word, times-word, over-word}
 use Rattle.calculus.specs.Words.{closing, mark, operator, numeral, name, negated-name}
 use Rattle.calculus.specs.Tokens.{Token, ended, word, wrong, tokenAt}
@@ -19,6 +19,21 @@ use Rattle.calculus.proofs.Booleans.{and-mk}
 use Rattle.theorems.proofs.Faithful.{has-append, has-word, has-one, has-as}
 use Rattle.theorems.proofs.Inversion.{off-got, got-value, got-place, got-nodes, then-got, item-got}
 use Rattle.calculus.proofs.TermLaws.{sameName-eq, sameOp-eq}
+
+-- the name x stood there, or it did not
+pub named-got : {A : Type 0} (x : List ℕ) (k : ℕ → ℕ → Reads A) (r : Reads A) (w : Token) (a : A) (t n : ℕ) → onNamed x k r w ≡ got a t n → ((p : ℕ) × (u : ℕ) × (w ≡ word (name x) p u) × (k p u ≡ got a t n)) ⊎ (r ≡ got a t n)
+unfolding onNamed
+named-got x k r (ended p) a t n e = inr e
+named-got x k r (word (mark b) p u) a t n e = inr e
+named-got x k r (word (operator o) p u) a t n e = inr e
+named-got x k r (word (numeral z) p u) a t n e = inr e
+named-got x k r (word (name y) p u) a t n e = go (sameName x y) (sameName-eq x y) e
+  where
+    go : (c : Bool) → (T c → x ≡ y) → cond c (k p u) r ≡ got a t n → ((q : ℕ) × (v : ℕ) × (word (name y) p u ≡ word (name x) q v) × (k q v ≡ got a t n)) ⊎ (r ≡ got a t n)
+    go true f e = inl (p, u, ap (λ (z : List ℕ). word (name z) p u) (sym (f tt)), e)
+    go false f e = inr e
+named-got x k r (word (negated-name y) p u) a t n e = inr e
+named-got x k r (wrong y p) a t n e = inr e
 
 -- a word of a pol line was read: it may stand there, and it is written so; no node was counted
 pub record TookWord (above : List ℕ → Bool) (s : List ℕ) (at n : ℕ) (w : PolWord) (t m : ℕ) : Type 0 where

@@ -9,10 +9,12 @@ use lib.Dec.{T, eqb, eqb→eq, ltb, ltb→lt, not-T}
 use lib.ListN.{length, getD, length-map}
 use Rattle.calculus.specs.Bytes.{bytes}
 use Rattle.calculus.specs.Claim.{linesOf, pushByte, lastLine, EndsIn, holdsYes, refutedYes}
-use Rattle.calculus.specs.Marks.{Line, lineOf, run, plainOf, numberOf, refusedIn, refutedBy}
+use Rattle.calculus.specs.Clauses.{Said, saidAt, clauseBelow, clausesBelow, clausesOf}
+use Rattle.calculus.specs.Marks.{Line, lineAt, lineOf, pick, polAnswer, run, plainOf, numberOf, refusedIn, refutedBy}
+use Rattle.calculus.specs.Pol.{polResult, givenClause}
 use Rattle.calculus.specs.Report.{yesNo, lineText, totalsText, render, refusalText}
-use Rattle.calculus.specs.Terms.{Term, Command, assume, step, Rule, addition, multiplication, division, saturation, literal, normalize, transfer, part, ruleText, idOf}
-use Rattle.calculus.specs.Truth.{Assignment, Satisfies, clauseOf}
+use Rattle.calculus.specs.Terms.{Term, Command, assume, step, pol, sameName, Rule, addition, multiplication, division, saturation, literal, normalize, transfer, part, ruleText, idOf}
+use Rattle.calculus.specs.Truth.{Assignment, Satisfies}
 use Rattle.calculus.specs.Words.{decimal, decimalFrom}
 use Rattle.calculus.proofs.Booleans.{and-l, and-r}
 use Rattle.theorems.proofs.Demand.{Held}
@@ -110,6 +112,7 @@ lineOf-clean : (ls : List Line) (c : Command) → Clean (idOf c) → CleanLine (
 unfolding lineOf idOf feedless
 lineOf-clean ls (assume d x) h = record { id = h; rule = clean-by (bytes "assume") tt }
 lineOf-clean ls (step d c r ds xs) h = record { id = h; rule = rule-clean r }
+lineOf-clean ls (pol d ws) h = record { id = h; rule = clean-by (bytes "pol") tt }
 
 lines-add : (ls : List Line) (l : Line) → CleanLines ls → CleanLine l → CleanLines (ls ++ (l ∷ []))
 unfolding CleanLines
@@ -240,23 +243,61 @@ unfolding clauses
 map-append [] l = refl
 map-append (m ∷ ls) l = ap (λ (r : List (List Term)). m .clause ∷ r) (map-append ls l)
 
-line-clause : (ls : List Line) (c : Command) → lineOf ls c .clause ≡ clauseOf c
-unfolding lineOf clauseOf
+-- the lines as the claim has them: ids with clauses
+said : Line → Said
+said l = record { id = l .id; clause = l .clause }
+
+sayings : List Line → List Said
+sayings ls = map said ls
+
+sayings-append : (ls : List Line) (l : Line) → sayings (ls ++ (l ∷ [])) ≡ sayings ls ++ (said l ∷ [])
+unfolding sayings
+sayings-append [] l = refl
+sayings-append (m ∷ ls) l = ap (λ (r : List Said). said m ∷ r) (sayings-append ls l)
+
+said-at : (ls : List Line) (d : List ℕ) → lineAt ls d .clause ≡ saidAt (sayings ls) d
+unfolding lineAt saidAt sayings said
+said-at [] d = refl
+said-at (l ∷ ls) d = go (sameName (l .id) d) (said-at ls d)
+  where
+    go : (c : Bool) → lineAt ls d .clause ≡ saidAt (sayings ls) d → pick c l (lineAt ls d) .clause ≡ cond c (l .clause) (saidAt (sayings ls) d)
+    go true e = refl
+    go false e = e
+
+line-clause : (ls : List Line) (c : Command) → lineOf ls c .clause ≡ clauseBelow (sayings ls) c
+unfolding lineOf clauseBelow polAnswer
 line-clause ls (assume d x) = refl
 line-clause ls (step d c r ds xs) = refl
+line-clause ls (pol d ws) = ap (λ (at : List ℕ → List Term). givenClause (polResult at ws)) (λ i d. said-at ls d i)
 
-run-clauses : (ls : List Line) (cs : List Command) → clauses (run ls cs) ≡ clauses ls ++ map clauseOf cs
-unfolding run
+line-id : (ls : List Line) (c : Command) → lineOf ls c .id ≡ idOf c
+unfolding lineOf idOf
+line-id ls (assume d x) = refl
+line-id ls (step d c r ds xs) = refl
+line-id ls (pol d ws) = refl
+
+line-said : (ls : List Line) (c : Command) → said (lineOf ls c) ≡ record { id = idOf c; clause = clauseBelow (sayings ls) c }
+unfolding said
+line-said ls c = let p : lineOf ls c .id ≡ idOf c = line-id ls c in let q : lineOf ls c .clause ≡ clauseBelow (sayings ls) c = line-clause ls c in λ i. record { id = p i; clause = q i }
+
+run-clauses : (ls : List Line) (cs : List Command) → clauses (run ls cs) ≡ clauses ls ++ clausesBelow (sayings ls) cs
+unfolding run clausesBelow
 run-clauses ls [] = sym (append-nil (clauses ls))
 run-clauses ls (c ∷ cs) =
     run-clauses (ls ++ (lineOf ls c ∷ [])) cs
-    ∙ ap (λ (r : List (List Term)). r ++ map clauseOf cs) (map-append ls (lineOf ls c))
-    ∙ append-assoc (clauses ls) (lineOf ls c .clause ∷ []) (map clauseOf cs)
-    ∙ ap (λ (t : List Term). clauses ls ++ (t ∷ map clauseOf cs)) (line-clause ls c)
+    ∙ ap (λ (r : List (List Term)). r ++ clausesBelow (sayings (ls ++ (lineOf ls c ∷ []))) cs) (map-append ls (lineOf ls c))
+    ∙ append-assoc (clauses ls) (lineOf ls c .clause ∷ []) (clausesBelow (sayings (ls ++ (lineOf ls c ∷ []))) cs)
+    ∙ ap (λ (t : List Term). clauses ls ++ (t ∷ clausesBelow (sayings (ls ++ (lineOf ls c ∷ []))) cs)) (line-clause ls c)
+    ∙ ap (λ (r : List Said). clauses ls ++ (clauseBelow (sayings ls) c ∷ clausesBelow r cs)) (sayings-append ls (lineOf ls c) ∙ ap (λ (l : Said). sayings ls ++ (l ∷ [])) (line-said ls c))
+
+pub below-length : (ls : List Said) (cs : List Command) → length (clausesBelow ls cs) ≡ length cs
+unfolding clausesBelow
+below-length ls [] = refl
+below-length ls (c ∷ cs) = ap suc (below-length _ cs)
 
 pub run-length : (cs : List Command) → length (run [] cs) ≡ length cs
-unfolding clauses
-run-length cs = sym (length-map (run [] cs) (λ (l : Line). l .clause)) ∙ ap length (run-clauses [] cs) ∙ length-map cs clauseOf
+unfolding clauses sayings
+run-length cs = sym (length-map (run [] cs) (λ (l : Line). l .clause)) ∙ ap length (run-clauses [] cs) ∙ below-length [] cs
 
 held-line : (σ : Assignment) (ls : List Line) (totals : List ℕ) (i : ℕ) → i < length ls → Held σ ls → EndsIn (getD (map lineText ls ++ (totals ∷ [])) i []) holdsYes → Satisfies σ (getD (clauses ls) i [])
 unfolding Held clauses
@@ -264,8 +305,8 @@ held-line σ [] totals i h k e = absurd (not-suc-le-zero h)
 held-line σ (l ∷ ls) totals zero h k e = k .0 (ends-holds l e)
 held-line σ (l ∷ ls) totals (suc i) h k e = held-line σ ls totals i (le-of-suc-le-suc h) (k .1) e
 
-pub marked-line : (σ : Assignment) (cs : List Command) (totals : List ℕ) (i : ℕ) → i < length cs → Held σ (run [] cs) → EndsIn (getD (map lineText (run [] cs) ++ (totals ∷ [])) i []) holdsYes → Satisfies σ (getD (map clauseOf cs) i [])
-unfolding clauses
+pub marked-line : (σ : Assignment) (cs : List Command) (totals : List ℕ) (i : ℕ) → i < length cs → Held σ (run [] cs) → EndsIn (getD (map lineText (run [] cs) ++ (totals ∷ [])) i []) holdsYes → Satisfies σ (getD (clausesOf cs) i [])
+unfolding clauses clausesOf sayings
 marked-line σ cs totals i h k e =
     subst (λ (r : List (List Term)). Satisfies σ (getD r i [])) (run-clauses [] cs)
     (held-line σ (run [] cs) totals i (subst (λ (n : ℕ). i < n) (sym (run-length cs)) h) k e)

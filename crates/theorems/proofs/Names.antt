@@ -8,7 +8,7 @@ use lib.Dec.{T, eqb, eqb→eq, leb, not-T}
 use lib.IntN.{ℤ}
 use lib.ListN.{length, take, drop}
 use Rattle.calculus.specs.Bytes.{isBlank, isDigit, isLetter, inName, inWord, classOf, opens, closes}
-use Rattle.calculus.specs.Terms.{sameName, Command, assume, step, idOf}
+use Rattle.calculus.specs.Terms.{sameName, Command, assume, step, pol, idOf}
 use Rattle.calculus.specs.Words.{Res, ok, bad, bind, Mark, opening, closing, Word, mark, operator, numeral, name, wordOf, wordText, fixedOr, fixedWords, nameOf, nameBytes, isNameText, maxName, numeralFirst, numeralOf, negated-name, behindTilde, tildeFirst}
 use Rattle.calculus.specs.Tokens.{word, wrong, tokenAt, tokenFrom, tokenBehind, span, judged}
 use Rattle.calculus.specs.Writing.{commandWords, wordsOf, Has}
@@ -129,6 +129,7 @@ command-id : (s : List ℕ) (c : Command) (ws : List Word) (a e : ℕ) → Has s
 unfolding Has commandWords idOf
 command-id s (assume d x) ws a e (p₁, t₁, h₁, (p₂, t₂, h₂, (p₃, t₃, h₃, r))) = name-clean d (token-name s t₂ d p₃ t₃ h₃)
 command-id s (step d c r ds xs) ws a e (p₁, t₁, h₁, (p₂, t₂, h₂, (p₃, t₃, h₃, k))) = name-clean d (token-name s t₂ d p₃ t₃ h₃)
+command-id s (pol d vs) ws a e (p₁, t₁, h₁, (p₂, t₂, h₂, (p₃, t₃, h₃, k))) = name-clean d (token-name s t₂ d p₃ t₃ h₃)
 
 pub ids-clean : (s : List ℕ) (cs : List Command) (a e : ℕ) → Has s a (wordsOf cs) e → CleanIds cs
 unfolding wordsOf CleanIds

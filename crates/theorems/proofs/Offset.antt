@@ -9,14 +9,14 @@ use lib.ListN.{length, take, drop}
 use lib.Seq.{drop-append-seam, drop-drop}
 use lib.IntN.{ℤ}
 use Rattle.calculus.specs.Bytes.{isBlank, inWord, classOf, opens, closes, bytes}
-use Rattle.calculus.specs.Commands.{enough, newId, premise, premises, premisesAt, argsAt, ruleOf, onRule, ruleAt, assumeAt, stepAt, commandAt, Read, whole, refused, Lead, finish, begin, halt, onLead, leadAt, onCommand, onRead, commands, readBehind}
+use Rattle.calculus.specs.Commands.{enough, newId, premise, premises, premisesAt, argsAt, ruleOf, onRule, ruleAt, assumeAt, stepAt, polAt, polOr, commandAt, Read, whole, refused, Lead, finish, begin, halt, onLead, leadAt, onCommand, onRead, commands, readBehind}
 use Rattle.calculus.specs.Grammar.{Reads, got, off, then, sameMark, onMark, expect, onOption, onName, nameAt, onClose, closeAt, Head, leaf, start, stop, limited, onOperator, onTerm, headAt, onHead, onItem, term, items}
-use Rattle.calculus.specs.Terms.{Op, Term, num, var, app, listed, Rule, Command, assume, step, add, mul, sameName, PolWord, line-word, plain-word, plus-word, saturate-word, times-word, over-word}
+use Rattle.calculus.specs.Terms.{Op, Term, num, var, app, listed, Rule, Command, assume, step, pol, add, mul, sameName, PolWord, line-word, plain-word, plus-word, saturate-word, times-word, over-word}
 use Rattle.calculus.specs.Words.{Res, ok, bad, Mark, opening, closing, cl-word, assume-word, step-word, rule-word, premises-word, args-word, Word, mark, operator, numeral, name, wordOf, negated-name}
 use Rattle.calculus.specs.Tokens.{Token, ended, word, wrong, span, judged, tokenFrom, tokenBehind, tokenAt}
-use Rattle.calculus.specs.Limits.{known, maxNodes, maxDepth, maxText, maxCommands, allNodes}
+use Rattle.calculus.specs.Limits.{known, polLines, maxPols, maxNodes, maxDepth, maxText, maxCommands, allNodes}
 use Rattle.calculus.specs.Equality.{sameOp}
-use Rattle.calculus.specs.PolGrammar.{onFactor, namedWord, onWord, wordAt, moreWords, wordsAt}
+use Rattle.calculus.specs.PolGrammar.{onNamed, onFactor, namedWord, onWord, wordAt, moreWords, wordsAt}
 use Rattle.calculus.proofs.Booleans.{is-true}
 use Rattle.calculus.proofs.Tokens.{token-later}
 
@@ -157,6 +157,16 @@ module _ (m : ℕ) where
   item-later r q xs n (word (name x) p t) e h = e
   item-later r q xs n (word (negated-name x) p t) e h = e
   item-later r q xs n (wrong x p) e h = e
+
+  named-later : {A : Type 0} (x : List ℕ) (k j : ℕ → ℕ → Reads A) (r q : Reads A) (w : Token) → ((p t : ℕ) → k (m + p) (m + t) ≡ laterReads m (j p t)) → r ≡ laterReads m q → onNamed x k r (laterToken m w) ≡ laterReads m (onNamed x j q w)
+  unfolding onNamed laterToken
+  named-later x k j r q (ended p) h e = e
+  named-later x k j r q (word (mark a) p t) h e = e
+  named-later x k j r q (word (operator o) p t) h e = e
+  named-later x k j r q (word (numeral z) p t) h e = e
+  named-later x k j r q (word (name y) p t) h e = cond-later (sameName x y) (k (m + p) (m + t)) r (j p t) q (h p t) e
+  named-later x k j r q (word (negated-name y) p t) h e = e
+  named-later x k j r q (wrong i p) h e = e
 
   factor-later : (z : ℤ) (n : ℕ) (w : Token) → onFactor z n (laterToken m w) ≡ laterReads m (onFactor z n w)
   unfolding onFactor laterToken laterReads
@@ -335,7 +345,7 @@ module _ (o s : List ℕ) where
       expect-behind rule-word t _ _ (λ t. rule-behind t _ _ (λ r t. then-later m (premisesAt cs u (m + t) i) (premisesAt cs s t i) _ _ (premisesAt-behind cs t i) (λ ds t i. then-later m (argsAt u (m + t) i) (argsAt s t i) _ _ (argsAt-behind t i) (λ xs t i.
       expect-behind closing t _ _ (λ t. got-later (step d c r ds xs) t i)))))))))
 
-  -- ---- the words of a pol line
+  -- ---- pol lines
   on-word-behind : (above : List ℕ → Bool) (n : ℕ) (w : Token) → onWord above u n (laterToken m w) ≡ laterReads m (onWord above s n w)
   unfolding onWord laterToken laterReads
   on-word-behind above n (ended p) = refl
@@ -361,9 +371,19 @@ module _ (o s : List ℕ) where
   unfolding wordsAt
   words-behind f above at n = then-later m (wordAt above u (m + at) n) (wordAt above s at n) _ _ (word-behind above at n) (λ w t i. more-behind f above t i (w ∷ []))
 
+  pol-behind : (cs : List Command) (at n : ℕ) → polAt cs u (m + at) n ≡ laterReads m (polAt cs s at n)
+  unfolding polAt
+  pol-behind cs at n = id-behind cs at _ _ (λ d t. then-later m (wordsAt enough (known cs) u (m + t) n) (wordsAt enough (known cs) s t n) _ _ (words-behind enough (known cs) t n) (λ ws t i. got-later (pol d ws) t i))
+
+  pol-or-behind : (cs : List Command) (at n : ℕ) (r q : Reads Command) → r ≡ laterReads m q → polOr cs u (m + at) n r ≡ laterReads m (polOr cs s at n q)
+  unfolding polOr laterReads
+  pol-or-behind cs at n r q e =
+      ap (onNamed (bytes "pol") _ r) (token-behind at)
+      ∙ named-later m (bytes "pol") _ _ r q (tokenAt s at) (λ p t. cond-later m (ltb (polLines cs) maxPols) (polAt cs u (m + t) n) (off 7 (m + p)) (polAt cs s t n) (off 7 p) (pol-behind cs t n) refl) e
+
   command-behind : (cs : List Command) (at n : ℕ) → commandAt cs u (m + at) n ≡ laterReads m (commandAt cs s at n)
   unfolding commandAt
-  command-behind cs at n = option-behind assume-word at _ _ _ _ (λ t. assume-behind cs t n) (expect-behind step-word at _ _ (λ t. step-behind cs t n))
+  command-behind cs at n = option-behind assume-word at _ _ _ _ (λ t. assume-behind cs t n) (pol-or-behind cs at n _ _ (expect-behind step-word at _ _ (λ t. step-behind cs t n)))
 
   lead-behind : (at i : ℕ) → leadAt u (m + at) i ≡ laterLead m (leadAt s at i)
   unfolding leadAt

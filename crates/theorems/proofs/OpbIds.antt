@@ -8,9 +8,9 @@ use native.Mathlib.Omega.{arith}
 use lib.Dec.{T, not-T, ltb, ltb→lt, nltb→le}
 use lib.IntN.{ℤ, negℤ}
 use lib.ListN.{length, length-append}
-use Rattle.calculus.specs.Terms.{Command, assume, idOf, sameName}
+use Rattle.calculus.specs.Terms.{Command, assume, step, pol, idOf, sameName}
 use Rattle.calculus.specs.Words.{decimal, magnitude, maxNumeral}
-use Rattle.calculus.specs.Limits.{known, fits, fitAll, some, allowed, allowedBehind, Limits}
+use Rattle.calculus.specs.Limits.{known, polLines, maxPols, fits, fitAll, some, allowed, allowedBehind, Limits}
 use Rattle.calculus.specs.Writing.{IsReadBehind}
 use Rattle.calculus.specs.OpbWords.{Literal, plain, negated, atLeast, equal}
 use Rattle.calculus.specs.OpbWriting.{Summand, times, Constraint, compare, inequality, turned, constraintId, assumptionsOf, assumptionsBehind, assumptions, IsOpb, keyOf, entryOf, entriesOf}
@@ -181,3 +181,48 @@ both-limits o s ks cs p r = record {
   nodes = r .limits .nodes;
   commands = r .limits .commands;
 }
+
+-- ---- pol lines: an OPB text has none, so the 64 are the proof text's own
+pols-append : (cs ds : List Command) → polLines (cs ++ ds) ≡ polLines cs + polLines ds
+unfolding polLines
+pols-append [] ds = omega arith
+pols-append (assume d x ∷ cs) ds = pols-append cs ds
+pols-append (step d c r is xs ∷ cs) ds = pols-append cs ds
+pols-append (pol d ws ∷ cs) ds = omega (arith, pols-append cs ds)
+
+pols-of : (n : ℕ) (k : Constraint) → polLines (assumptionsOf n k) ≡ 0
+unfolding polLines assumptionsOf
+pols-of n (compare xs atLeast k) = refl
+pols-of n (compare xs equal k) = refl
+
+pols-all : (n : ℕ) (ks : List Constraint) → polLines (assumptionsBehind n ks) ≡ 0
+unfolding polLines assumptionsBehind
+pols-all n [] = refl
+pols-all n (k ∷ ks) = omega (arith, pols-append (assumptionsOf n k) (assumptionsBehind (n + length (assumptionsOf n k)) ks), pols-of n k, pols-all (n + length (assumptionsOf n k)) ks)
+
+-- behind the assumptions of an OPB text only the proof text's own pol lines count
+pub pols-behind : (ks : List Constraint) (cs : List Command) → polLines (assumptions ks ++ cs) ≡ polLines cs
+unfolding assumptions
+pols-behind ks cs = omega (arith, pols-append (assumptions ks) cs, pols-all 0 ks)
+
+one-more : (cs : List Command) (c : Command) → polLines cs ≤ maxPols → T (allowed cs c) → polLines (cs ++ (c ∷ [])) ≤ maxPols
+unfolding allowed polLines
+one-more cs (assume d x) h t = omega (arith, pols-append cs (assume d x ∷ []))
+one-more cs (step d c r is xs) h t = omega (arith, pols-append cs (step d c r is xs ∷ []))
+one-more cs (pol d ws) h t =
+    let l : polLines cs < maxPols = ltb→lt (polLines cs) maxPols (and-l (ltb (polLines cs) maxPols) _ (and-r (not (known cs d)) _ t)) in
+    omega (arith, pols-append cs (pol d ws ∷ []))
+
+pols-allowed : (cs ds : List Command) → polLines cs ≤ maxPols → T (allowedBehind cs ds) → polLines (cs ++ ds) ≤ maxPols
+unfolding allowedBehind
+pols-allowed cs [] h t = subst (λ (z : List Command). polLines z ≤ maxPols) (sym (append-nil cs)) h
+pols-allowed cs (c ∷ ds) h t =
+    subst (λ (z : List Command). polLines z ≤ maxPols) (append-assoc cs (c ∷ []) ds)
+    (pols-allowed (cs ++ (c ∷ [])) ds (one-more cs c h (and-l (allowed cs c) _ t)) (and-r (allowed cs c) _ t))
+
+-- a proof text that is read behind an OPB text has at most 64
+pub pols-limit : (o s : List ℕ) (ks : List Constraint) (cs : List Command) → IsOpb o ks → IsReadBehind (assumptions ks) s cs → polLines cs ≤ maxPols
+unfolding polLines
+pols-limit o s ks cs p r =
+    let h : polLines ([] ++ (assumptions ks ++ cs)) ≤ maxPols = pols-allowed [] (assumptions ks ++ cs) (omega arith) (both-limits o s ks cs p r .allowed) in
+    omega (arith, pols-behind ks cs)

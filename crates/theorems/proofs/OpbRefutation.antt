@@ -4,7 +4,7 @@ use mathlib.Core.List.{List, [], _∷_, _++_}
 use Prim.Native.Nat.{ℕ}
 use lib.IntN.{pos}
 use Rattle.calculus.specs.Bytes.{bytes}
-use Rattle.calculus.specs.Claim.{SoundBehind, EndsIn, linesOf, lastLine, refutedYes}
+use Rattle.calculus.specs.Claim.{SoundBy, EndsIn, linesOf, lastLine, refutedYes}
 use Rattle.calculus.specs.Commands.{whole, readBehind}
 use Rattle.calculus.specs.Terms.{app, num, nil, cons, ge, addition, Command, step}
 use Rattle.calculus.specs.Truth.{Assignment, Models}
@@ -12,7 +12,7 @@ use Rattle.calculus.specs.Writing.{IsReadBehind}
 use Rattle.calculus.specs.OpbWords.{plain, negated, atLeast}
 use Rattle.calculus.specs.OpbWriting.{times, Constraint, compare, assumptions, IsOpb}
 use Rattle.calculus.specs.OpbTruth.{Solves}
-use Rattle.calculus.specs.OpbClaim.{SoundBoth}
+use Rattle.calculus.specs.Clauses.{SoundBoth}
 use Rattle.calculus.specs.OpbReading.{constraints, readOpb}
 use Rattle.calculus.specs.OpbReport.{reportBoth}
 use Rattle.calculus.proofs.Computing.{computing}
@@ -57,5 +57,5 @@ last-says = (bytes "commands=3 refused=0", refl)
 
 -- no assignment of 0 and 1 solves the two constraints
 pub unsolvable : (σ : Assignment) → ¬ (Solves σ two)
-unfolding SoundBoth SoundBehind Models commands
-unsolvable σ h = sound-both opb text two is-opb commands is-file .refuted last-says σ (h, tt)
+unfolding SoundBoth SoundBy Models commands
+unsolvable σ h = sound-both opb text two commands is-opb is-file .refuted last-says σ (h, tt)

@@ -1,7 +1,7 @@
 -- An assignment solves OPB constraints exactly when it satisfies the assumptions that they become.
 use mathlib.Core.Path.{_≡_, refl, sym, ap, ap₂, subst, _∙_}
 use mathlib.Core.Bool.{true}
-use mathlib.Core.List.{List, [], _∷_, _++_}
+use mathlib.Core.List.{List, [], _∷_, _++_, map}
 use mathlib.Core.Logic.{_↔_}
 use Prim.Native.Nat.{ℕ, _+_}
 use lib.Dec.{T}
@@ -9,12 +9,12 @@ use lib.IntN.{ℤ, pos, negℤ, _+ℤ_, _*ℤ_}
 use lib.ListN.{length}
 use lib.Signed.{leZ, _≤ℤ_}
 use Rattle.integer.proofs.Parts.{int, link, ‹_›, lit, _⊕_, _⊖_, _⊗_, neg}
-use Rattle.calculus.specs.Terms.{Command, assume, step}
-use Rattle.calculus.specs.Truth.{Assignment, bit, sumZ, prodZ, lessZ, valOp, val, vals, arithmeticOp, isArithmetic, areArithmetic, two, statementOp, isStatement, pairOf, truthOp, truth, clauseOf, clausesOf, Satisfies, Models}
+use Rattle.calculus.specs.Terms.{Command, assume, step, pol}
+use Rattle.calculus.specs.Truth.{Assignment, bit, sumZ, prodZ, lessZ, valOp, val, vals, arithmeticOp, isArithmetic, areArithmetic, two, statementOp, isStatement, pairOf, truthOp, truth, clauseOf, Satisfies, Models}
 use Rattle.calculus.specs.OpbWords.{Literal, plain, negated, atLeast, equal}
-use Rattle.calculus.specs.OpbWriting.{Summand, times, Constraint, compare, inequality, turned, assumptionsOf, assumptionsBehind, assumptions, keyOf, entryOf, entriesOf}
-use Rattle.calculus.specs.OpbTruth.{literalValue, sumValue, MakesTrue, Solves}
+use Rattle.calculus.specs.OpbWriting.{Summand, times, Constraint, compare, keyOf, entryOf, entriesOf, inequality, turned, assumptionsOf, assumptionsBehind, assumptions}
 use Rattle.calculus.specs.Entries.{litTerm, entryTerm, entryTerms, sumTerm, inequalityTerm}
+use Rattle.calculus.specs.OpbTruth.{literalValue, sumValue, MakesTrue, Solves}
 use Rattle.calculus.proofs.Booleans.{and-mk}
 use Rattle.theorems.proofs.RulesSound.{AllSat}
 
@@ -99,26 +99,26 @@ equal-exact σ xs k =
       λ (h, j). let i : negℤ k ≤ℤ negℤ v = subst (λ (z : ℤ). negℤ k ≤ℤ z) e j in omega (int, link (neg ‹ v ›), link (neg ‹ k ›)),
     )
 
-constraint-exact : (σ : Assignment) (n : ℕ) (k : Constraint) → MakesTrue σ k ↔ AllSat σ (clausesOf (assumptionsOf n k))
-unfolding MakesTrue AllSat clausesOf clauseOf assumptionsOf
+constraint-exact : (σ : Assignment) (n : ℕ) (k : Constraint) → MakesTrue σ k ↔ AllSat σ (map clauseOf (assumptionsOf n k))
+unfolding MakesTrue AllSat clauseOf assumptionsOf
 constraint-exact σ n (compare xs atLeast k) = (λ h. (inequality-exact σ xs k .1 h, tt), λ (h, z). inequality-exact σ xs k .0 h)
 constraint-exact σ n (compare xs equal k) = (
   λ h. let (a, b) = equal-exact σ xs k .0 h in (inequality-exact σ xs k .1 a, (inequality-exact σ (turned xs) (negℤ k) .1 b, tt)),
   λ (h, (j, z)). equal-exact σ xs k .1 (inequality-exact σ xs k .0 h, inequality-exact σ (turned xs) (negℤ k) .0 j),
 )
 
-all-append : (σ : Assignment) (cs ds : List Command) → AllSat σ (clausesOf cs) → AllSat σ (clausesOf ds) → AllSat σ (clausesOf (cs ++ ds))
-unfolding AllSat clausesOf
+all-append : (σ : Assignment) (cs ds : List Command) → AllSat σ (map clauseOf cs) → AllSat σ (map clauseOf ds) → AllSat σ (map clauseOf (cs ++ ds))
+unfolding AllSat
 all-append σ [] ds h k = k
 all-append σ (c ∷ cs) ds (h, i) k = (h, all-append σ cs ds i k)
 
-all-split : (σ : Assignment) (cs ds : List Command) → AllSat σ (clausesOf (cs ++ ds)) → AllSat σ (clausesOf cs) × AllSat σ (clausesOf ds)
-unfolding AllSat clausesOf
+all-split : (σ : Assignment) (cs ds : List Command) → AllSat σ (map clauseOf (cs ++ ds)) → AllSat σ (map clauseOf cs) × AllSat σ (map clauseOf ds)
+unfolding AllSat
 all-split σ [] ds h = (tt, h)
 all-split σ (c ∷ cs) ds (h, k) = let (a, b) = all-split σ cs ds k in ((h, a), b)
 
-behind-exact : (σ : Assignment) (n : ℕ) (ks : List Constraint) → Solves σ ks ↔ AllSat σ (clausesOf (assumptionsBehind n ks))
-unfolding Solves AllSat clausesOf assumptionsBehind
+behind-exact : (σ : Assignment) (n : ℕ) (ks : List Constraint) → Solves σ ks ↔ AllSat σ (map clauseOf (assumptionsBehind n ks))
+unfolding Solves AllSat assumptionsBehind
 behind-exact σ n [] = (λ h. tt, λ h. tt)
 behind-exact σ n (k ∷ ks) =
     let cs = assumptionsOf n k in
@@ -130,7 +130,7 @@ behind-exact σ n (k ∷ ks) =
     )
 
 -- the theorem: an assignment solves the constraints exactly when it satisfies each assumption that they become
-pub solves-exactly : (σ : Assignment) (ks : List Constraint) → Solves σ ks ↔ AllSat σ (clausesOf (assumptions ks))
+pub solves-exactly : (σ : Assignment) (ks : List Constraint) → Solves σ ks ↔ AllSat σ (map clauseOf (assumptions ks))
 unfolding assumptions
 solves-exactly σ ks = behind-exact σ 0 ks
 
@@ -140,24 +140,28 @@ unfoldable pub Statements : List Command → Type 0
 Statements [] = Unit {0}
 Statements (assume d t ∷ cs) = T (isStatement t) × Statements cs
 Statements (step d c r ds xs ∷ cs) = ⊥
+Statements (pol d ws ∷ cs) = ⊥
 
-satisfied-models : (σ : Assignment) (cs : List Command) → AllSat σ (clausesOf cs) → Models σ cs
-unfolding AllSat clausesOf clauseOf Models Satisfies
+satisfied-models : (σ : Assignment) (cs : List Command) → AllSat σ (map clauseOf cs) → Models σ cs
+unfolding AllSat clauseOf Models Satisfies
 satisfied-models σ [] h = tt
 satisfied-models σ (assume d t ∷ cs) (h, k) = (λ s. h .1, satisfied-models σ cs k)
 satisfied-models σ (step d c r ds xs ∷ cs) (h, k) = satisfied-models σ cs k
+satisfied-models σ (pol d ws ∷ cs) (h, k) = satisfied-models σ cs k
 
-models-satisfied : (σ : Assignment) (cs : List Command) → Statements cs → Models σ cs → AllSat σ (clausesOf cs)
-unfolding AllSat clausesOf clauseOf Models Satisfies Statements
+models-satisfied : (σ : Assignment) (cs : List Command) → Statements cs → Models σ cs → AllSat σ (map clauseOf cs)
+unfolding AllSat clauseOf Models Satisfies Statements
 models-satisfied σ [] s h = tt
 models-satisfied σ (assume d t ∷ cs) (s, z) (h, k) = ((s, h s), models-satisfied σ cs z k)
 models-satisfied σ (step d c r ds xs ∷ cs) s h = absurd s
+models-satisfied σ (pol d ws ∷ cs) s h = absurd s
 
 statements-append : (cs ds : List Command) → Statements cs → Statements ds → Statements (cs ++ ds)
 unfolding Statements
 statements-append [] ds h k = k
 statements-append (assume d t ∷ cs) ds (h, i) k = (h, statements-append cs ds i k)
 statements-append (step d c r is xs ∷ cs) ds h k = absurd h
+statements-append (pol d ws ∷ cs) ds h k = absurd h
 
 statements-of : (n : ℕ) (k : Constraint) → Statements (assumptionsOf n k)
 unfolding Statements assumptionsOf
@@ -178,3 +182,10 @@ solves-models σ ks = (
   λ h. satisfied-models σ (assumptions ks) (solves-exactly σ ks .0 h),
   λ h. solves-exactly σ ks .1 (models-satisfied σ (assumptions ks) (assumptions-statements ks) h),
 )
+
+pub models-append : (σ : Assignment) (cs ds : List Command) → Models σ cs → Models σ ds → Models σ (cs ++ ds)
+unfolding Models
+models-append σ [] ds h k = k
+models-append σ (assume d t ∷ cs) ds (h, i) k = (h, models-append σ cs ds i k)
+models-append σ (step d c r is xs ∷ cs) ds h k = models-append σ cs ds h k
+models-append σ (pol d ws ∷ cs) ds h k = models-append σ cs ds h k

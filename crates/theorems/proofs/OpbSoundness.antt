@@ -1,38 +1,42 @@
 -- The report of every OPB text and proof text behind it is sound, from the OPB text's own solutions onward (02, No. 1).
 use mathlib.Core.Path.{_≡_, refl, sym, ap, subst, _∙_}
-use mathlib.Core.Bool.{_&&_}
-use mathlib.Core.List.{List, [], _∷_, _++_}
-use mathlib.Core.Logic.{_↔_}
+use mathlib.Core.Bool.{Bool, true, false, not, cond, _&&_}
+use mathlib.Core.List.{List, [], _∷_, _++_, map}
 use Prim.Native.Nat.{ℕ, suc, _+_, _<_}
+use native.Mathlib.Nat.{not-suc-le-zero}
 use native.Mathlib.Omega.{arith}
-use lib.Dec.{leb}
+use lib.Dec.{T, leb}
 use lib.ListN.{length, getD}
-use Rattle.calculus.specs.Claim.{SoundBehind, Sound, EndsIn, linesOf, lastLine, holdsYes, refutedYes}
-use Rattle.calculus.specs.Commands.{whole, readFile}
+use Rattle.calculus.specs.Claim.{Claim, SolvesBoth, SoundBy, EndsIn, linesOf, lastLine, holdsYes, refutedYes}
+use Rattle.calculus.specs.Clauses.{clausesOf, SoundBoth}
+use Rattle.calculus.specs.Commands.{Read, whole, refused}
 use Rattle.calculus.specs.Marks.{Line, lineOf, run}
-use Rattle.calculus.specs.Report.{reportRead, reportOf, minReport, minTable}
+use Rattle.calculus.specs.Report.{reportRead, minReport, minTable}
 use Rattle.calculus.specs.Terms.{Command, idOf}
-use Rattle.calculus.specs.Truth.{Assignment, Models, Satisfies, clausesOf}
+use Rattle.calculus.specs.Truth.{Assignment, Satisfies, clauseOf}
 use Rattle.calculus.specs.Writing.{IsReadBehind}
 use Rattle.calculus.specs.OpbWords.{atLeast, equal}
 use Rattle.calculus.specs.OpbWriting.{Constraint, compare, constraintId, assumptionsOf, assumptionsBehind, assumptions, IsOpb}
-use Rattle.calculus.specs.OpbTruth.{Solves}
 use Rattle.calculus.specs.OpbReading.{OpbRead, constraints, refusedAt, readOpb}
-use Rattle.calculus.specs.OpbClaim.{SoundBoth}
 use Rattle.calculus.specs.OpbReport.{onOpb, readBoth, reportBoth, writtenBoth}
-use Rattle.calculus.proofs.Computing.{computing}
 use Rattle.theorems.proofs.FaithfulFile.{faithful-behind}
 use Rattle.theorems.proofs.Lines.{Clean, CleanIds, decimal-line, refusal-not-refuted, refusal-not-marked}
+use Rattle.theorems.proofs.Names.{ids-clean}
 use Rattle.theorems.proofs.OpbFaithful.{opb-faithful}
 use Rattle.theorems.proofs.OpbReadable.{opb-complete, opb-once}
-use Rattle.theorems.proofs.OpbSolutions.{solves-models}
+use Rattle.theorems.proofs.OpbSolutions.{solves-models, models-append}
 use Rattle.theorems.proofs.ReadableFile.{complete-behind, read-once-behind}
-use Rattle.theorems.proofs.Soundness.{clean-ids-append, sound-behind, refuted-behind, marked-behind, sound-or-nothing}
+use Rattle.theorems.proofs.SoundWhole.{sound-whole, claim-nothing, isPol, written-clause, clauses-length}
 
--- ---- the ids of the assumptions hold no line feed
+-- ---- the ids of both texts hold no line feed
 id-clean : (n : ℕ) → Clean (constraintId n)
 unfolding Clean constraintId
 id-clean n = (tt, decimal-line n)
+
+clean-ids : (cs ds : List Command) → CleanIds cs → CleanIds ds → CleanIds (cs ++ ds)
+unfolding CleanIds
+clean-ids [] ds h k = k
+clean-ids (c ∷ cs) ds (h, i) k = (h, clean-ids cs ds i k)
 
 clean-of : (n : ℕ) (k : Constraint) → CleanIds (assumptionsOf n k)
 unfolding CleanIds assumptionsOf idOf
@@ -42,7 +46,7 @@ clean-of n (compare xs equal k) = (id-clean (suc n), (id-clean (suc (suc n)), tt
 clean-behind : (n : ℕ) (ks : List Constraint) → CleanIds (assumptionsBehind n ks)
 unfolding CleanIds assumptionsBehind
 clean-behind n [] = tt
-clean-behind n (k ∷ ks) = clean-ids-append (assumptionsOf n k) _ (clean-of n k) (clean-behind (n + length (assumptionsOf n k)) ks)
+clean-behind n (k ∷ ks) = clean-ids (assumptionsOf n k) _ (clean-of n k) (clean-behind (n + length (assumptionsOf n k)) ks)
 
 clean-assumptions : (ks : List Constraint) → CleanIds (assumptions ks)
 unfolding assumptions
@@ -80,65 +84,54 @@ lines-behind ls (c ∷ before) cs = lines-behind (ls ++ (lineOf ls c ∷ [])) be
 
 -- ---- the theorem
 pub sound-both : (o s : List ℕ) → SoundBoth o s (reportBoth o s)
-unfolding SoundBoth reportBoth readBoth onOpb
-sound-both o s ks p =
-    subst (λ (z : OpbRead). SoundBehind (assumptions ks) (λ σ. Solves σ ks) s (reportRead (onOpb s z))) (sym (opb-complete o ks p))
-    (sound-behind (assumptions ks) (λ σ. Solves σ ks) (λ σ. solves-models σ ks .0) (clean-assumptions ks) s)
+unfolding SoundBoth SoundBy reportBoth reportRead
+sound-both o s ks cs p r =
+    subst (λ (z : Read). Claim (SolvesBoth ks cs) (clausesOf (assumptions ks ++ cs)) (linesOf (reportRead z))) (sym (both-complete o s ks cs p r))
+    (sound-whole (SolvesBoth ks cs) (assumptions ks ++ cs) (λ σ (h, m). models-append σ (assumptions ks) cs (solves-models σ ks .0 h) m)
+    (clean-ids (assumptions ks) cs (clean-assumptions ks) (ids-clean s cs 0 (r .words .last) (r .words .words))))
+
+-- what it says of refuted=yes alone: no clauses are handed in, so nothing of pol lines is believed
+pub sound-refuted : (o s : List ℕ) → SoundBy (λ cs. []) o s (reportBoth o s)
+unfolding SoundBoth SoundBy
+sound-refuted o s ks cs p r = record { marked = λ i l. absurd (not-suc-le-zero l); refuted = sound-both o s ks cs p r .refuted }
 
 -- whatever a call is lent, what it writes is sound
 pub sound-both-written : (r n : ℕ) (o s : List ℕ) → SoundBoth o s (writtenBoth r n o s)
-unfolding SoundBoth writtenBoth
-sound-both-written r n o s ks p = sound-or-nothing (leb minReport r && leb minTable n) (assumptions ks) (λ σ. Solves σ ks) s (reportBoth o s) (sound-both o s ks p)
+unfolding writtenBoth
+sound-both-written r n o s = go (leb minReport r && leb minTable n)
+  where
+    nothing : SoundBoth o s []
+    nothing = unfold SoundBoth SoundBy in λ ks cs p q. claim-nothing (SolvesBoth ks cs) (clausesOf (assumptions ks ++ cs))
 
--- ---- texts with a mark in their report are an OPB text and a file behind it: refused texts have none
+    go : (c : Bool) → SoundBoth o s (cond c (reportBoth o s) [])
+    go true = sound-both o s
+    go false = nothing
+
+-- ---- texts with a mark in their report are files: refused texts have none
 -- of texts whose report says refuted=yes: no solution of the OPB text satisfies the proof text's own assumptions that are statements
-pub refuted-both : (o s : List ℕ) → EndsIn (lastLine (linesOf (reportBoth o s))) refutedYes →
-    (ks : List Constraint) × (cs : List Command) × IsOpb o ks × IsReadBehind (assumptions ks) s cs × ((σ : Assignment) → ¬ (Solves σ ks × Models σ cs))
-unfolding reportBoth readBoth onOpb reportRead
-refuted-both o s k = go (readOpb o) refl k
+pub refuted-both : (o s : List ℕ) → EndsIn (lastLine (linesOf (reportBoth o s))) refutedYes → (ks : List Constraint) × (cs : List Command) × IsOpb o ks × IsReadBehind (assumptions ks) s cs × ((σ : Assignment) → ¬ (SolvesBoth ks cs σ))
+unfolding SoundBoth SoundBy reportBoth reportRead
+refuted-both o s k = go (readBoth o s) refl k
   where
-    go : (z : OpbRead) → readOpb o ≡ z → EndsIn (lastLine (linesOf (reportRead (onOpb s z)))) refutedYes →
-        (ks : List Constraint) × (cs : List Command) × IsOpb o ks × IsReadBehind (assumptions ks) s cs × ((σ : Assignment) → ¬ (Solves σ ks × Models σ cs))
-    go (constraints ks) e h =
-        let p : IsOpb o ks = opb-faithful o ks e in
-        let (cs, (r, g)) = refuted-behind (assumptions ks) (λ σ. Solves σ ks) (λ σ. solves-models σ ks .0) (clean-assumptions ks) s (p .nodes) (p .commands) h in
-        (ks, cs, p, r, g)
-    go (refusedAt n q) e h = absurd (refusal-not-refuted n q h)
+    go : (z : Read) → readBoth o s ≡ z → EndsIn (lastLine (linesOf (reportRead z))) refutedYes → (ks : List Constraint) × (cs : List Command) × IsOpb o ks × IsReadBehind (assumptions ks) s cs × ((σ : Assignment) → ¬ (SolvesBoth ks cs σ))
+    go (whole ds) e h = let (ks, cs, p, r, g) = both-faithful o s ds e in (ks, cs, p, r, sound-both o s ks cs p r .refuted k)
+    go (refused n p) e h = absurd (refusal-not-refuted n p h)
 
--- of texts whose report says holds=yes in line i: each that does satisfies line i's clause, where there is one
+-- of texts whose report says holds=yes in line i: each of them satisfies line i's clause, where there is one
 pub marked-both : (o s : List ℕ) (i : ℕ) → EndsIn (getD (linesOf (reportBoth o s)) i []) holdsYes →
-    (ks : List Constraint) × (cs : List Command) × IsOpb o ks × IsReadBehind (assumptions ks) s cs × (i < length (clausesOf (assumptions ks ++ cs)) → (σ : Assignment) → Solves σ ks × Models σ cs → Satisfies σ (getD (clausesOf (assumptions ks ++ cs)) i []))
-unfolding reportBoth readBoth onOpb reportRead
-marked-both o s i k = go (readOpb o) refl k
+    (ks : List Constraint) × (cs : List Command) × IsOpb o ks × IsReadBehind (assumptions ks) s cs × (i < length (assumptions ks ++ cs) → (σ : Assignment) → SolvesBoth ks cs σ → Satisfies σ (getD (clausesOf (assumptions ks ++ cs)) i []))
+unfolding SoundBoth SoundBy reportBoth reportRead
+marked-both o s i k = go (readBoth o s) refl k
   where
-    go : (z : OpbRead) → readOpb o ≡ z → EndsIn (getD (linesOf (reportRead (onOpb s z))) i []) holdsYes →
-        (ks : List Constraint) × (cs : List Command) × IsOpb o ks × IsReadBehind (assumptions ks) s cs × (i < length (clausesOf (assumptions ks ++ cs)) → (σ : Assignment) → Solves σ ks × Models σ cs → Satisfies σ (getD (clausesOf (assumptions ks ++ cs)) i []))
-    go (constraints ks) e h =
-        let p : IsOpb o ks = opb-faithful o ks e in
-        let (cs, (r, g)) = marked-behind (assumptions ks) (λ σ. Solves σ ks) (λ σ. solves-models σ ks .0) (clean-assumptions ks) s (p .nodes) (p .commands) i h in
-        (ks, cs, p, r, g)
-    go (refusedAt n q) e h = absurd (refusal-not-marked n q i h)
+    go : (z : Read) → readBoth o s ≡ z → EndsIn (getD (linesOf (reportRead z)) i []) holdsYes →
+        (ks : List Constraint) × (cs : List Command) × IsOpb o ks × IsReadBehind (assumptions ks) s cs × (i < length (assumptions ks ++ cs) → (σ : Assignment) → SolvesBoth ks cs σ → Satisfies σ (getD (clausesOf (assumptions ks ++ cs)) i []))
+    go (whole ds) e h = let (ks, cs, p, r, g) = both-faithful o s ds e in (ks, cs, p, r, λ l. sound-both o s ks cs p r .marked i (subst (λ (n : ℕ). i < n) (sym (clauses-length (assumptions ks ++ cs))) l) k)
+    go (refused n p) e h = absurd (refusal-not-marked n p i h)
 
--- ---- an empty OPB text: the reading, the report and the claim of one text
-pub empty-read : (s : List ℕ) → readBoth [] s ≡ readFile s
-unfolding computing
-empty-read s = refl
-
-pub empty-report : (s : List ℕ) → reportBoth [] s ≡ reportOf s
-unfolding reportBoth reportOf
-empty-report s = ap reportRead (empty-read s)
-
-none-read : readOpb [] ≡ constraints []
-unfolding computing
-none-read = refl
-
-none-opb : IsOpb [] []
-none-opb = opb-faithful [] [] none-read
-
--- it has no constraints
-pub empty-opb : (ks : List Constraint) → IsOpb [] ks → ks ≡ []
-empty-opb ks p = opb-once [] ks [] p none-opb
-
-pub empty-claim : (s r : List ℕ) → SoundBoth [] s r ↔ Sound s r
-unfolding SoundBoth Sound assumptions assumptionsBehind Solves
-empty-claim s r = (λ f. f [] none-opb, λ f ks p. subst (λ (z : List Constraint). SoundBehind (assumptions z) (λ σ. Solves σ z) s r) (sym (empty-opb ks p)) f)
+-- of such a line that is no pol line: each of them satisfies the clause that stands in the text, or that the constraint becomes
+pub marked-both-written : (o s : List ℕ) (i : ℕ) (ks : List Constraint) (cs : List Command) → IsOpb o ks → IsReadBehind (assumptions ks) s cs → EndsIn (getD (linesOf (reportBoth o s)) i []) holdsYes →
+    i < length (assumptions ks ++ cs) → T (not (getD (map isPol (assumptions ks ++ cs)) i true)) → (σ : Assignment) → SolvesBoth ks cs σ → Satisfies σ (getD (map clauseOf (assumptions ks ++ cs)) i [])
+unfolding SoundBoth SoundBy
+marked-both-written o s i ks cs p r k l h σ m =
+    subst (Satisfies σ) (written-clause (assumptions ks ++ cs) i h)
+    (sound-both o s ks cs p r .marked i (subst (λ (n : ℕ). i < n) (sym (clauses-length (assumptions ks ++ cs))) l) k σ m)

@@ -5,17 +5,20 @@ use mathlib.Core.List.{List, [], _∷_, _++_}
 use Prim.Native.Nat.{ℕ, zero, suc, _+_, _-_, _*_, _≤_, _<_}
 use native.Mathlib.Omega.{arith}
 use lib.Dec.{T, eqb, leb, ltb, leb→le, nleb→lt}
-use lib.IntN.{pos}
+use lib.IntN.{ℤ, pos}
 use lib.ListN.{length, take, drop, length-drop}
-use Rattle.calculus.specs.Bytes.{isBlank, inWord, classOf, opens, closes}
-use Rattle.calculus.specs.Commands.{enough, newId, premise, premises, premisesAt, argsAt, ruleAmong, ruleOf, onRule, ruleAt, assumeAt, stepAt, commandAt, Read, whole, refused, begin, halt, onLead, leadAt, onCommand, onRead, commands, readBehind, readFile}
+use Rattle.calculus.specs.Bytes.{isBlank, inWord, classOf, opens, closes, bytes}
+use Rattle.calculus.specs.Commands.{enough, newId, premise, premises, premisesAt, argsAt, ruleAmong, ruleOf, onRule, ruleAt, assumeAt, stepAt, commandAt, Read, whole, refused, begin, halt, onLead, leadAt, onCommand, onRead, commands, readBehind, readFile, polAt, polOr}
 use Rattle.calculus.specs.Grammar.{Reads, got, off, then, sameMark, onMark, expect, onOption, onName, nameAt, closeAt, Head, leaf, stop, limited, onOperator, onTerm, headAt, onHead, onItem, term, items}
-use Rattle.calculus.specs.Terms.{Op, Term, num, var, app, sameName, Rule, Command, ruleText}
+use Rattle.calculus.specs.Terms.{Op, Term, num, var, app, sameName, Rule, Command, ruleText, add, mul, PolWord, line-word, plain-word, negated-word, plus-word, saturate-word, times-word, over-word}
 use Rattle.calculus.specs.Words.{Res, ok, bad, bind, ensure, Mark, opening, closing, cl-word, assume-word, step-word, rule-word, premises-word, args-word, Word, mark, operator, numeral, name, wordOf, wordText, fixedOr, fixedWords, nameOf, isNameText, maxName, numeralFirst, numeralOf, magnitude, negative, digits, leadingZero, valueFrom, maxNumeral, negated-name, behindTilde, tildeFirst}
 use Rattle.calculus.specs.Tokens.{Token, ended, word, wrong, tokenAt, tokenFrom, tokenBehind, span, judged}
-use Rattle.calculus.specs.Limits.{maxNodes, maxDepth, maxText, maxCommands, known, allNodes}
-use Rattle.calculus.specs.Writing.{termWords}
+use Rattle.calculus.specs.Limits.{maxNodes, maxDepth, maxText, maxCommands, known, allNodes, maxPols, polLines}
+use Rattle.calculus.specs.Writing.{termWords, polWord}
+use Rattle.calculus.specs.Equality.{sameOp}
+use Rattle.calculus.specs.PolGrammar.{onNamed, onFactor, namedWord, onWord, wordAt, moreWords, wordsAt}
 use Rattle.theorems.proofs.Faithful.{Took, More, written}
+use Rattle.theorems.proofs.FaithfulPol.{TookWord, wordAt-has}
 use Rattle.theorems.proofs.FaithfulFile.{premise-got, premisesAt-has, argsAt-has, Stands, commandAt-has}
 use Rattle.calculus.proofs.Tokens.{token-later, has-long, has-inside, span-le}
 
@@ -318,9 +321,86 @@ module _ (s : List ℕ) where
         let i₈ : t₈ ≤ length s = has-inside s _ t₇ t₈ i₇ (argsAt-has s t₇ n₇ xs t₈ n₈ e₈ .1 .has) in
         expect-proper closing t₈ _ i₈ (λ t₉ i₉. tt)))))))))
 
+    -- ---- pol lines
+    six : (p : ℕ) → p ≤ length s → Refusal s 6 p
+    six p h = refusal 6 p (omega arith) (omega arith) h
+
+    factor-proper : (z : ℤ) (n : ℕ) (w : Token) → TokenIn w → Proper (onFactor z n w)
+    unfolding onFactor TokenIn Proper
+    factor-proper z n (ended p) i = six p i
+    factor-proper z n (word (mark a) p t) i = six p (i .0)
+    factor-proper z n (word (operator o) p t) i = cond-proper (sameOp mul o) (got (times-word z) t n) (off 6 p) tt (six p (i .0))
+    factor-proper z n (word (numeral y) p t) i = six p (i .0)
+    factor-proper z n (word (name x) p t) i = cond-proper (sameName (bytes "d") x) (got (over-word z) t n) (off 6 p) tt (six p (i .0))
+    factor-proper z n (word (negated-name x) p t) i = six p (i .0)
+    factor-proper z n (wrong e p) i = i
+
+    on-word : (above : List ℕ → Bool) (n : ℕ) (w : Token) → TokenIn w → Proper (onWord above s n w)
+    unfolding onWord namedWord TokenIn Proper
+    on-word above n (ended p) i = six p i
+    on-word above n (word (mark a) p t) i = six p (i .0)
+    on-word above n (word (operator o) p t) i = cond-proper (sameOp add o) (got plus-word t n) (off 6 p) tt (six p (i .0))
+    on-word above n (word (numeral z) p t) i = factor-proper z n (tokenAt s t) (token-in t (i .1))
+    on-word above n (word (name x) p t) i =
+        cond-proper (sameName (bytes "d") x) (off 6 p) _ (six p (i .0))
+        (cond-proper (sameName (bytes "s") x) (got saturate-word t n) _ tt (cond-proper (above x) (got (line-word x) t n) (got (plain-word x) t n) tt tt))
+    on-word above n (word (negated-name x) p t) i = tt
+    on-word above n (wrong e p) i = i
+
+    word-proper : (above : List ℕ → Bool) (at n : ℕ) → at ≤ length s → Proper (wordAt above s at n)
+    unfolding wordAt
+    word-proper above at n h = on-word above n (tokenAt s at) (token-in at h)
+
+    -- a word takes at least one byte
+    word-inside : (above : List ℕ → Bool) (at n : ℕ) (w : PolWord) (t m : ℕ) → at ≤ length s → wordAt above s at n ≡ got w t m → (at < t) × (t ≤ length s)
+    unfolding polWord
+    word-inside above at n w t m h e =
+        let r : TookWord above s at n w t m = wordAt-has above s at n w t m e in
+        (omega (arith, has-long s (polWord w) at t (r .has), some w), has-inside s (polWord w) at t h (r .has))
+      where
+        some : (w : PolWord) → 1 ≤ length (polWord w)
+        some (line-word d) = omega arith
+        some (plain-word x) = omega arith
+        some (negated-word x) = omega arith
+        some plus-word = omega arith
+        some saturate-word = omega arith
+        some (times-word z) = omega arith
+        some (over-word z) = omega arith
+
+    more-proper : (f : ℕ) (above : List ℕ → Bool) (at n : ℕ) (ws : List PolWord) → at ≤ length s → length s - at < f → Proper (moreWords f above s at n ws)
+    unfolding moreWords
+    more-proper zero above at n ws h k = let v : ⊥ = omega arith in absurd v
+    more-proper (suc f) above at n ws h k =
+        item-proper _ ws n (closeAt s at)
+        (then-proper (wordAt above s at n) _ (word-proper above at n h)
+        (λ w t m e. let (a, b) = word-inside above at n w t m h e in more-proper f above t m (ws ++ (w ∷ [])) b (omega arith)))
+
+    pol-proper : (cs : List Command) (at n : ℕ) → at ≤ length s → Proper (polAt cs s at n)
+    unfolding polAt wordsAt Proper
+    pol-proper cs at n h =
+        id-proper cs at _ h (λ d u i. then-proper (wordsAt enough (known cs) s u n) _
+        (then-proper (wordAt (known cs) s u n) _ (word-proper (known cs) u n i) (λ w t m e. let (a, b) = word-inside (known cs) u n w t m i e in more-proper enough (known cs) t m (w ∷ []) b (omega arith)))
+        (λ ws t m e. tt))
+
+    on-named : (x : List ℕ) (k : ℕ → ℕ → Reads Command) (r : Reads Command) (w : Token) → TokenIn w → ((p u : ℕ) → p ≤ length s → u ≤ length s → Proper (k p u)) → Proper r → Proper (onNamed x k r w)
+    unfolding onNamed TokenIn
+    on-named x k r (ended p) i f h = h
+    on-named x k r (word (mark a) p t) i f h = h
+    on-named x k r (word (operator o) p t) i f h = h
+    on-named x k r (word (numeral z) p t) i f h = h
+    on-named x k r (word (name y) p t) i f h = cond-proper (sameName x y) (k p t) r (f p t (i .0) (i .1)) h
+    on-named x k r (word (negated-name y) p t) i f h = h
+    on-named x k r (wrong e p) i f h = h
+
+    or-proper : (cs : List Command) (at n : ℕ) (r : Reads Command) → at ≤ length s → Proper r → Proper (polOr cs s at n r)
+    unfolding polOr Proper
+    or-proper cs at n r h k =
+        on-named (bytes "pol") _ r (tokenAt s at) (token-in at h)
+        (λ p u i j. cond-proper (ltb (polLines cs) maxPols) (polAt cs s u n) (off 7 p) (pol-proper cs u n j) (refusal 7 p (omega arith) (omega arith) i)) k
+
     command-proper : (cs : List Command) (at n : ℕ) → at ≤ length s → Proper (commandAt cs s at n)
     unfolding commandAt
-    command-proper cs at n h = on-option assume-word _ _ (tokenAt s at) (token-in at h) (λ u i. assume-proper cs u n i) (expect-proper step-word at _ h (λ u i. step-proper cs u n i))
+    command-proper cs at n h = on-option assume-word _ _ (tokenAt s at) (token-in at h) (λ u i. assume-proper cs u n i) (or-proper cs at n _ h (expect-proper step-word at _ h (λ u i. step-proper cs u n i)))
 
     -- ---- files
     on-lead : (k : ℕ → Read) (cs : List Command) (j at : ℕ) (w : Token) → TokenIn w → tokenAt s at ≡ w → ((u : ℕ) → at < u → u ≤ length s → ProperRead s (k u)) → ProperRead s (onCommand k cs (onLead j w))

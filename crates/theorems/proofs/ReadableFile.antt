@@ -6,15 +6,18 @@ use Prim.Native.Nat.{ℕ, zero, suc, _+_, _≤_, _<_}
 use native.Mathlib.Omega.{arith}
 use lib.Dec.{T, eqb, eqb-refl, leb, ltb, lt→ltb, le→leb}
 use lib.ListN.{length, length-append}
-use Rattle.calculus.specs.Commands.{enough, newId, premise, premises, premisesAt, argsAt, ruleAmong, ruleOf, onRule, ruleAt, assumeAt, stepAt, commandAt, Read, whole, refused, begin, halt, onLead, leadAt, onCommand, onRead, commands, readBehind, readFile}
+use Rattle.calculus.specs.Bytes.{bytes}
+use Rattle.calculus.specs.Commands.{enough, newId, premise, premises, premisesAt, argsAt, ruleAmong, ruleOf, onRule, ruleAt, assumeAt, stepAt, commandAt, Read, whole, refused, begin, halt, onLead, leadAt, onCommand, onRead, commands, readBehind, readFile, polAt, polOr}
 use Rattle.calculus.specs.Grammar.{Reads, got, off, then, markNumber, sameMark, onMark, expect, onOption, onName, nameAt, onClose, closeAt, onItem, term, items}
-use Rattle.calculus.specs.Terms.{Term, sameName, Rule, addition, multiplication, division, saturation, literal, normalize, transfer, part, Command, assume, step, listed, ruleText}
+use Rattle.calculus.specs.PolGrammar.{onNamed, wordsAt}
+use Rattle.calculus.specs.Terms.{Term, sameName, Rule, addition, multiplication, division, saturation, literal, normalize, transfer, part, PolWord, Command, assume, step, pol, listed, ruleText}
 use Rattle.calculus.specs.Words.{ok, Mark, opening, closing, cl-word, assume-word, step-word, rule-word, premises-word, args-word, Word, mark, name}
 use Rattle.calculus.specs.Tokens.{Token, ended, word, tokenAt}
-use Rattle.calculus.specs.Limits.{maxNodes, maxText, maxCommands, known, nodes, nodesIn, fits, fitAll, allKnown, allowed, allowedBehind, commandNodes, allNodes}
-use Rattle.calculus.specs.Writing.{termWords, termsWords, nameWords, premisesWords, argsWords, commandWords, wordsOf, Has, IsReadBehind, IsRead}
+use Rattle.calculus.specs.Limits.{maxNodes, maxText, maxCommands, known, nodes, nodesIn, fits, fitAll, allKnown, allowed, allowedBehind, commandNodes, allNodes, maxPols, polLines, someWord, allowedWords}
+use Rattle.calculus.specs.Writing.{termWords, termsWords, nameWords, premisesWords, argsWords, polWords, commandWords, wordsOf, Has, IsReadBehind, IsRead}
 use Rattle.calculus.proofs.Booleans.{and-l, and-r, is-true}
 use Rattle.theorems.proofs.Readable.{has-split, unlisted-back, got-eq, item-close, completes}
+use Rattle.theorems.proofs.ReadablePol.{wordsAt-eq, words-long}
 use Rattle.theorems.proofs.Faithful.{has-as, terms-listed}
 use Rattle.theorems.proofs.FaithfulFile.{body, command-words, nodes-append}
 use Rattle.calculus.proofs.Tokens.{token-later, has-long, has-inside}
@@ -175,17 +178,46 @@ module _ (s : List ℕ) where
         ∙ expect-eq closing t₈ p₉ t _ h₉
         ∙ got-eq _ _ t _ _ refl (omega arith)
 
+    pol-eq : (cs : List Command) (d : List ℕ) (ws : List PolWord) (at n t : ℕ) → T (not (known cs d)) → T (someWord ws) → T (allowedWords (known cs) ws) → Has s at (name d ∷ (polWords ws ++ (mark closing ∷ []))) t → polAt cs s at n ≡ got (pol d ws) t n
+    unfolding polAt Has
+    pol-eq cs d ws at n t h f a (p, u, e, g) =
+        let j : u ≤ length s = token-later s at (name d) p u e .1 in
+        let l : length (polWords ws ++ (mark closing ∷ [])) ≡ length (polWords ws) + 1 = length-append (polWords ws) (mark closing ∷ []) in
+        id-eq cs at _ d p u e h
+        ∙ then-eq (wordsAt enough (known cs) s u n) _ ws t n (wordsAt-eq (known cs) s enough ws u n t f a (omega (arith, words-long ws, has-long s (polWords ws ++ (mark closing ∷ [])) u t g, has-inside s (polWords ws ++ (mark closing ∷ [])) u t j g)) g)
+
+    -- where `pol` stands, and where a mark does
+    pol-or : (cs : List Command) (at n p u : ℕ) (r : Reads Command) → tokenAt s at ≡ word (name (bytes "pol")) p u → T (ltb (polLines cs) maxPols) → polOr cs s at n r ≡ polAt cs s u n
+    unfolding polOr onNamed sameName
+    pol-or cs at n p u r e l = ap (onNamed (bytes "pol") (λ p t. cond (ltb (polLines cs) maxPols) (polAt cs s t n) (off 7 p)) r) e ∙ ap (λ (b : Bool). cond b (polAt cs s u n) (off 7 p)) (is-true (ltb (polLines cs) maxPols) l)
+
+    mark-or : (cs : List Command) (at n p u : ℕ) (m : Mark) (r : Reads Command) → tokenAt s at ≡ word (mark m) p u → polOr cs s at n r ≡ r
+    unfolding polOr onNamed
+    mark-or cs at n p u m r e = ap (onNamed (bytes "pol") (λ p t. cond (ltb (polLines cs) maxPols) (polAt cs s t n) (off 7 p)) r) e
+
+    name-option : (m : Mark) (at p u : ℕ) (x : List ℕ) (k : ℕ → Reads Command) (r : Reads Command) → tokenAt s at ≡ word (name x) p u → onOption m k r (tokenAt s at) ≡ r
+    unfolding onOption
+    name-option m at p u x k r e = ap (onOption m k r) e
+
     command-eq : (cs : List Command) (c : Command) (at n t : ℕ) → T (allowed cs c) → n + commandNodes c ≤ maxNodes → Has s at (body c) t → commandAt cs s at n ≡ got c t (n + commandNodes c)
     unfolding commandAt allowed commandNodes body Has sameMark markNumber
     command-eq cs (assume d x) at n t a k (p, u, e, h) =
-        option-yes assume-word at p u _ (expect step-word s at (λ t. stepAt cs s t n)) e
+        option-yes assume-word at p u _ (polOr cs s at n (expect step-word s at (λ t. stepAt cs s t n))) e
         ∙ assume-eq cs d x u n t (and-l (not (known cs d)) _ a) (and-r (not (known cs d)) _ a) k h
     command-eq cs (step d c r ds xs) at n t a k (p, u, e, h) =
         let b : T (fitAll 1 (listed c) && (allKnown cs ds && fitAll 1 (listed xs))) = and-r (not (known cs d)) _ a in
         let g : T (allKnown cs ds && fitAll 1 (listed xs)) = and-r (fitAll 1 (listed c)) _ b in
-        option-no assume-word step-word at p u (λ t. assumeAt cs s t n) (expect step-word s at (λ t. stepAt cs s t n)) e refl
+        option-no assume-word step-word at p u (λ t. assumeAt cs s t n) (polOr cs s at n (expect step-word s at (λ t. stepAt cs s t n))) e refl
+        ∙ mark-or cs at n p u step-word (expect step-word s at (λ t. stepAt cs s t n)) e
         ∙ expect-eq step-word at p u _ e
         ∙ step-eq cs d c r ds xs u n t (and-l (not (known cs d)) _ a) (and-l (fitAll 1 (listed c)) _ b) (and-l (allKnown cs ds) _ g) (and-r (allKnown cs ds) _ g) k h
+    command-eq cs (pol d ws) at n t a k (p, u, e, h) =
+        let b : T (ltb (polLines cs) maxPols && (someWord ws && allowedWords (known cs) ws)) = and-r (not (known cs d)) _ a in
+        let g : T (someWord ws && allowedWords (known cs) ws) = and-r (ltb (polLines cs) maxPols) _ b in
+        name-option assume-word at p u (bytes "pol") (λ t. assumeAt cs s t n) (polOr cs s at n (expect step-word s at (λ t. stepAt cs s t n))) e
+        ∙ pol-or cs at n p u (expect step-word s at (λ t. stepAt cs s t n)) e (and-l (ltb (polLines cs) maxPols) _ b)
+        ∙ pol-eq cs d ws u n t (and-l (not (known cs d)) _ a) (and-l (someWord ws) _ g) (and-r (someWord ws) _ g) h
+        ∙ got-eq _ _ t _ _ refl (omega arith)
 
     lead-begin : (at p u k : ℕ) → tokenAt s at ≡ word (mark opening) p u → k < maxCommands → leadAt s at k ≡ begin u
     unfolding leadAt onLead sameMark markNumber

@@ -2,10 +2,10 @@
 use mathlib.Core.Path.{_≡_, refl, sym, ap, ap₂, _∙_}
 use mathlib.Core.Bool.{Bool, not}
 use mathlib.Core.List.{List, [], _∷_, _++_, append-assoc, append-nil}
-use Prim.Native.Nat.{ℕ, zero, suc, _<_}
+use Prim.Native.Nat.{ℕ, zero, suc, _≤_, _<_}
 use native.Mathlib.Omega.{arith}
 use lib.Dec.{T}
-use lib.ListN.{length}
+use lib.ListN.{length, length-append}
 use Rattle.calculus.specs.Bytes.{bytes}
 use Rattle.calculus.specs.Grammar.{Reads, got, then, onClose, closeAt, onItem}
 use Rattle.calculus.specs.PolGrammar.{onFactor, namedWord, onWord, wordAt, moreWords, wordsAt}
@@ -73,3 +73,18 @@ module _ (above : List ℕ → Bool) (s : List ℕ) where
       let (b, h₁, h₂) = has-split s (polWord w) (polWords ws ++ (mark closing ∷ [])) at t (has-as s at t _ _ (append-assoc (polWord w) (polWords ws) (mark closing ∷ [])) h) in
       then-got-eq (wordAt above s at n) (λ w t m. moreWords f above s t m (w ∷ [])) w b n (wordAt-eq w at n b (and-l (allowedWord above w) _ a) h₁)
       ∙ more-eq f ws b n (w ∷ []) t (and-r (allowedWord above w) _ a) (omega arith) h₂
+
+-- each is written with a word at least
+pub words-long : (ws : List PolWord) → length ws ≤ length (polWords ws)
+unfolding polWords polWord
+words-long [] = omega arith
+words-long (w ∷ ws) = omega (arith, words-long ws, length-append (polWord w) (polWords ws), go w)
+  where
+    go : (w : PolWord) → 1 ≤ length (polWord w)
+    go (line-word d) = omega arith
+    go (plain-word x) = omega arith
+    go (negated-word x) = omega arith
+    go plus-word = omega arith
+    go saturate-word = omega arith
+    go (times-word m) = omega arith
+    go (over-word m) = omega arith

@@ -6,13 +6,13 @@ use lib.IntN.{pos}
 use Rattle.calculus.specs.Bytes.{bytes}
 use Rattle.calculus.specs.Terms.{Term, num, var, app, nil, cons, sub, mul, ge, addition, Command, assume, step}
 use Rattle.calculus.specs.Truth.{Assignment, Models}
-use Rattle.calculus.specs.Claim.{SoundBehind, Sound, EndsIn, linesOf, lastLine, refutedYes}
+use Rattle.calculus.specs.Claim.{EndsIn, linesOf, lastLine, refutedYes}
 use Rattle.calculus.specs.Commands.{whole, readFile}
 use Rattle.calculus.specs.Report.{reportOf}
 use Rattle.calculus.proofs.Computing.{computing}
 use Rattle.calculus.proofs.Examples.{lines}
 use Rattle.theorems.proofs.FaithfulFile.{faithful}
-use Rattle.theorems.proofs.Soundness.{sound}
+use Rattle.theorems.proofs.Soundness.{sound-file}
 
 -- x and 1 - x cannot both be at least 1
 text : List ℕ
@@ -51,5 +51,4 @@ last-says = (bytes "commands=3 refused=0", refl)
 
 -- no assignment of 0 and 1 satisfies the two assumptions
 pub unsolvable : (σ : Assignment) → ¬ (Models σ commands)
-unfolding Sound SoundBehind
-unsolvable σ m = sound text commands (faithful text commands read) .refuted last-says σ (tt, m)
+unsolvable = sound-file text commands (faithful text commands read) .refuted last-says

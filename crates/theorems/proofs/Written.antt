@@ -8,13 +8,13 @@ use lib.Dec.{T, not-T, eqb, eqb→eq, leb}
 use lib.IntN.{ℤ, pos, negsuc, natAbs}
 use lib.ListN.{length, drop, length-append}
 use lib.Seq.{take-append-seam, drop-append-seam, drop-drop, drop-length}
-use Rattle.calculus.specs.Bytes.{isBlank, isDigit, isLetter, inName, inWord, classOf}
+use Rattle.calculus.specs.Bytes.{bytes, isBlank, isDigit, isLetter, inName, inWord, classOf}
 use Rattle.calculus.specs.Commands.{whole, readFile}
-use Rattle.calculus.specs.Terms.{Op, add, sub, mul, ge, gt, le, lt, eq, conj, Term, Terms, num, var, app, nil, cons, listed, Rule, addition, multiplication, division, saturation, literal, normalize, transfer, part, ruleText, Command, assume, step}
+use Rattle.calculus.specs.Terms.{Op, add, sub, mul, ge, gt, le, lt, eq, conj, Term, Terms, num, var, app, nil, cons, listed, Rule, addition, multiplication, division, saturation, literal, normalize, transfer, part, ruleText, Command, assume, step, pol}
 use Rattle.calculus.specs.Words.{ok, bind, Mark, opening, closing, cl-word, assume-word, step-word, rule-word, premises-word, args-word, Word, mark, operator, numeral, name, decimal, integerText, operatorText, markText, wordText, digits, maxNumeral, magnitude, negative, numeralOf, digitFirst, numeralFirst, nameBytes, isNameText, wordOf, Res, negated-name, behindTilde, tildeFirst}
 use Rattle.calculus.specs.Tokens.{word, wrong, span, judged, tokenFrom, tokenBehind, tokenAt}
 use Rattle.calculus.specs.Limits.{maxText, Limits}
-use Rattle.calculus.specs.Writing.{termWords, termsWords, nameWords, premisesWords, argsWords, commandWords, wordsOf, Has, Spells}
+use Rattle.calculus.specs.Writing.{termWords, termsWords, nameWords, premisesWords, argsWords, polWords, commandWords, wordsOf, Has, Spells}
 use Rattle.calculus.proofs.Booleans.{or-elim, or-l, or-r, and-l, and-r, and-mk, is-true, is-false}
 use Rattle.theorems.proofs.ReadableFile.{complete}
 use Rattle.calculus.proofs.Computing.{computing}
@@ -247,10 +247,11 @@ unfoldable mutual
   InRangeTerms nil = Unit {0}
   InRangeTerms (cons t ts) = InRangeTerm t × InRangeTerms ts
 
--- the id, the cited premises, and the terms' variables and numerals
+-- the id, the cited premises, the words of a pol line, and the terms' variables and numerals
 unfoldable pub InRangeCommand : Command → Type 0
 InRangeCommand (assume d x) = InRange (name d) × InRangeTerm x
 InRangeCommand (step d c r ds xs) = InRange (name d) × InRangeTerms (listed c) × AllInRange (nameWords ds) × InRangeTerms (listed xs)
+InRangeCommand (pol d ws) = InRange (name d) × AllInRange (polWords ws)
 
 unfoldable pub InRangeCommands : List Command → Type 0
 InRangeCommands [] = Unit {0}
@@ -306,6 +307,10 @@ command-range (assume d x) (h, k) = (tt, (tt, (h, all-closed (termWords x) (term
 command-range (step d c r ds xs) (h, k, i, j) =
     let a = all-append (premisesWords ds) _ (premises-range ds i) (all-closed (argsWords xs) (args-range xs j)) in
     (tt, (tt, (h, (tt, (tt, all-append (termsWords (listed c)) _ (terms-range (listed c) k) (tt, (tt, (rule-range r, a))))))))
+command-range (pol d ws) (h, k) = (tt, (pol-range, (h, all-closed (polWords ws) k)))
+  where
+    pol-range : InRange (name (bytes "pol"))
+    pol-range = unfold computing InRange in refl
 
 commands-range : (cs : List Command) → InRangeCommands cs → AllInRange (wordsOf cs)
 unfolding wordsOf InRangeCommands

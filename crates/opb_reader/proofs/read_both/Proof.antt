@@ -44,8 +44,8 @@ read-commands-requires c κs = both-begun ((c .before .before .before .before .b
 enum-known-e-2 : tie.Need-enum-known-e-2
 enum-known-e-2 c = search needs
 
-sub-t41 : tie.Need-sub-t41
-sub-t41 c = both-later ((c .before .before .before .before .before .before .before .before .before .before .before .before .before .before .before .before .before .before .before .before .before .before .before .before .before .before .before .before .before .before .before .before .before .before .pre)) (model-is _ _ _ _ _ _ ((c .before .before .before .before .before .before .before .before .before .before .before .before .before .before .before .before .before .before .before .before .before .before .before .before .read-opb) .result) ((c .before .before .before .before .before .before .before .before .before .before .before .before .before .before .before .before .before .before .before .before .before .before .before .before .read-opb) .ensures) _ _ ((c .before .before .before .before .before .before .before .before .before .before .before .before .before .before .before .before .k) .given .1)) (omega (arith, (c .before .before .before .before .before .before .before .before .before .before .before .before .before .before .if1) .left)) _ _ ((c .before .before .before .before .before .before .before .before .before .read-commands) .result) ((c .before .before .before .before .before .before .before .before .before .read-commands) .ensures) _ _ ((c .before .e2) .given .1)
+sub-t42 : tie.Need-sub-t42
+sub-t42 c = both-later ((c .before .before .before .before .before .before .before .before .before .before .before .before .before .before .before .before .before .before .before .before .before .before .before .before .before .before .before .before .before .before .before .before .before .before .pre)) (model-is _ _ _ _ _ _ ((c .before .before .before .before .before .before .before .before .before .before .before .before .before .before .before .before .before .before .before .before .before .before .before .before .read-opb) .result) ((c .before .before .before .before .before .before .before .before .before .before .before .before .before .before .before .before .before .before .before .before .before .before .before .before .read-opb) .ensures) _ _ ((c .before .before .before .before .before .before .before .before .before .before .before .before .before .before .before .before .k) .given .1)) (omega (arith, (c .before .before .before .before .before .before .before .before .before .before .before .before .before .before .if1) .left)) _ _ ((c .before .before .before .before .before .before .before .before .before .read-commands) .result) ((c .before .before .before .before .before .before .before .before .before .read-commands) .ensures) _ _ ((c .before .e2) .given .1)
 
 enum-known-l : tie.Need-enum-known-l
 enum-known-l c = search needs
@@ -78,7 +78,7 @@ same-length-8 : tie.Need-same-length-8
 same-length-8 c = search needs
 
 returns-4 : tie.Need-returns-4
-returns-4 c = both-all ((c .before .before .before .before .before .before .before .before .before .before .before .before .before .before .before .before .before .before .before .before .before .before .before .before .before .before .before .before .before .before .before .before .before .before .pre)) (model-is _ _ _ _ _ _ ((c .before .before .before .before .before .before .before .before .before .before .before .before .before .before .before .before .before .before .before .before .before .before .before .before .read-opb) .result) ((c .before .before .before .before .before .before .before .before .before .before .before .before .before .before .before .before .before .before .before .before .before .before .before .before .read-opb) .ensures) _ _ ((c .before .before .before .before .before .before .before .before .before .before .before .before .before .before .before .before .k) .given .1)) (omega (arith, (c .before .before .before .before .before .before .before .before .before .before .before .before .before .before .if1) .left)) _ _ ((c .before .before .before .before .before .before .before .before .before .read-commands) .result) ((c .before .before .before .before .before .before .before .before .before .read-commands) .ensures) _ _ _ ((c .before .l) .given .1)
+returns-4 c = both-all ((c .before .before .before .before .before .before .before .before .before .before .before .before .before .before .before .before .before .before .before .before .before .before .before .before .before .before .before .before .before .before .before .before .before .before .pre)) (model-is _ _ _ _ _ _ ((c .before .before .before .before .before .before .before .before .before .before .before .before .before .before .before .before .before .before .before .before .before .before .before .before .read-opb) .result) ((c .before .before .before .before .before .before .before .before .before .before .before .before .before .before .before .before .before .before .before .before .before .before .before .before .read-opb) .ensures) _ _ ((c .before .before .before .before .before .before .before .before .before .before .before .before .before .before .before .before .k) .given .1)) (omega (arith, (c .before .before .before .before .before .before .before .before .before .before .before .before .before .before .if1) .left)) _ _ ((c .before .before .before .before .before .before .before .before .before .read-commands) .result) ((c .before .before .before .before .before .before .before .before .before .read-commands) .ensures) _ _ _ _ ((c .before .l) .given .1)
 
 same-length-9 : tie.Need-same-length-9
 same-length-9 c = search needs
@@ -106,7 +106,7 @@ read-both-spec =
     slice-aggregate-read-commands-2
     read-commands-requires
     enum-known-e-2
-    sub-t41
+    sub-t42
     enum-known-l
     enum-told
     same-length-3

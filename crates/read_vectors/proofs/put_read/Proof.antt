@@ -14,7 +14,7 @@ put-tables-requires : tie.Need-put-tables-requires
 put-tables-requires c κs =
     let given = (c .before .before .before .before .before .before .before .before .before .before .before .before .before .before .before .args) in
     let call = (c .before .before .before .before .before .before .before .before .before .read-file) in
-    in-use (given .text .now) (given .nodes .now) (call .last .1 .0) (given .commands .now) (call .last .1 .1 .0) (call .result) _ _ _ (call .ensures) ((c .before .before .before .k) .given .1)
+    in-use (given .text .now) (given .nodes .now) (call .last .1 .0) (given .commands .now) (call .last .1 .1 .0) (call .result) _ _ _ _ (call .ensures) ((c .before .before .before .k) .given .1)
 
 enum-known-number : tie.Need-enum-known-number
 enum-known-number c = search needs

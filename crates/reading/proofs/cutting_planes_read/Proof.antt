@@ -75,7 +75,7 @@ returns-4 c =
     let given = (c .before .before .before .before .before .before .before .before .before .before .before .before .before .before .before .before .before .args) in
     let call = (c .before .before .before .before .before .before .before .read-file) in
     let large : Lent (given .nodes .now) (given .commands .now) (given .answer .now) = record { nodes = omega (arith, (c .before .before .before .before .before .before .before .before .before .before .before .before .if1) .left); commands = omega (arith, (c .before .before .before .before .before .before .before .before .before .before .before .if2) .left); answer = omega (arith, (c .before .before .before .before .before .before .before .before .before .before .if3) .left) } in
-    read (given .text .now) (given .nodes .now) _ (call .last .1 .0) _ (given .commands .now) (call .last .1 .1 .0) (given .answer .now) (call .result) _ _ _ large (call .kept .1 .0 ∙ length-take-le 16384 (given .nodes .now) (large .nodes)) (call .ensures) ((c .before .k) .given .1)
+    read (given .text .now) (given .nodes .now) _ (call .last .1 .0) _ (given .commands .now) (call .last .1 .1 .0) (given .answer .now) (call .result) _ _ _ _ large (call .kept .1 .0 ∙ length-take-le 16384 (given .nodes .now) (large .nodes)) (call .ensures) ((c .before .k) .given .1)
 
 same-length-4 : tie.Need-same-length-4
 same-length-4 c = search needs

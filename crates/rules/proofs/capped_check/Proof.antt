@@ -23,7 +23,7 @@ returns-2 : tie.Need-returns-2
 returns-2 c = λ x u v. unless-zero ((c .before .before .before .before .before .before .before .before .args) .two .number) _ _ (omega (arith, (c .before .before .before .if1) .left)) (sat-constant (inequality (entries (term x) (placed leftAt ((c .before .before .before .before .before .before .before .before .args) .coeffs .now)) (placed leftAt ((c .before .before .before .before .before .before .before .before .args) .keys .now)) ((c .before .before .before .before .before .before .before .before .args) .two .count)) ((c .before .before .before .before .before .before .before .before .args) .two .constant)) (inequality (entries (term x) (placed conclusionAt ((c .before .before .before .before .before .before .before .before .args) .coeffs .now)) (placed conclusionAt ((c .before .before .before .before .before .before .before .before .args) .keys .now)) ((c .before .before .before .before .before .before .before .before .args) .two .count2)) ((c .before .before .before .before .before .before .before .before .args) .two .constant2)) (sym (rw (kept (omega arith) ((c .before .before .before .before .before .before .before .before .pre) .0 .0)) at ((c .before .less) .ensures)) ∙ (c .if2) .taken))
 
 nonnegative-requires : tie.Need-nonnegative-requires
-nonnegative-requires c κs = ((c .before .before .before .before .before .before .before .before .pre) .1 .0 .1, (c .before .before .before .before .before .before .before .before .pre) .1 .0 .0 .fine .few)
+nonnegative-requires c κs = (omega arith, (c .before .before .before .before .before .before .before .before .pre) .1 .0 .1, (c .before .before .before .before .before .before .before .before .pre) .1 .0 .0 .fine .few)
 
 returns-3 : tie.Need-returns-3
 returns-3 c = λ x u v. unless-zero ((c .before .before .before .before .before .before .before .before .before .before .args) .two .number) _ _ (omega (arith, (c .before .before .before .before .before .if1) .left)) (sat-coefficient (inequality (entries (term x) (placed leftAt ((c .before .before .before .before .before .before .before .before .before .before .args) .coeffs .now)) (placed leftAt ((c .before .before .before .before .before .before .before .before .before .before .args) .keys .now)) ((c .before .before .before .before .before .before .before .before .before .before .args) .two .count)) ((c .before .before .before .before .before .before .before .before .before .before .args) .two .constant)) (inequality (entries (term x) (placed conclusionAt ((c .before .before .before .before .before .before .before .before .before .before .args) .coeffs .now)) (placed conclusionAt ((c .before .before .before .before .before .before .before .before .before .before .args) .keys .now)) ((c .before .before .before .before .before .before .before .before .before .before .args) .two .count2)) ((c .before .before .before .before .before .before .before .before .before .before .args) .two .constant2)) (sym (rw (kept (omega arith) ((c .before .before .before .before .before .before .before .before .before .before .pre) .0 .0)) at ((c .before .before .before .less) .ensures)) ∙ (c .before .before .if2) .left) (sym (not-true _ ((c .if3) .taken)) ∙ (c .before .nonnegative) .ensures (term x) (placed leftAt ((c .before .before .before .before .before .before .before .before .before .before .args) .keys .now))))

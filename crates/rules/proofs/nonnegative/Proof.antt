@@ -6,35 +6,34 @@ use Prim.Native.Nat.{_-_}
 use native.Mathlib.Omega.{arith}
 use Rattle.integer.proofs.Signed.{back}
 use Rattle.matching.specs.Places.{placed}
-use Rattle.sums.specs.Places.{leftAt}
 use Rattle.matching.proofs.Places.{coefficient-at}
 use Rattle.rules.proofs.Mapping.{Counting, nonnegative-start, nonnegative-more, nonnegative-stop, nonnegative-end}
 use Rattle.rules.proofs.nonnegative.Statement.{statement}
 use Rattle.rules.proofs.nonnegative.Tie as tie
 
 abbrev Inv-loop : tie.InvT-loop
-Inv-loop coeffs n i₀ i = Counting (placed leftAt coeffs) n i
+Inv-loop coeffs at n i₀ i = Counting (placed at coeffs) n i
 
 abbrev μ-loop : tie.MeasureT-loop
-μ-loop coeffs n i₀ i = n - i
+μ-loop coeffs at n i₀ i = n - i
 
 loop-holds : tie.Need-loop-holds Inv-loop μ-loop
-loop-holds c = nonnegative-start (placed leftAt ((c .args) .coeffs .now)) ((c .args) .n) 0 (omega arith)
+loop-holds c = nonnegative-start (placed ((c .args) .at) ((c .args) .coeffs .now)) ((c .args) .n) 0 (omega arith)
 
 add-less : tie.Need-add-less Inv-loop μ-loop
-add-less c = omega (arith, (c .before .before .pre) .1)
+add-less c = search needs
 
 mul-less : tie.Need-mul-less Inv-loop μ-loop
-mul-less c = omega (arith, (c .before .before .pre) .1)
+mul-less c = search needs
 
 shared-slice-copy-out-less : tie.Need-shared-slice-copy-out-less Inv-loop μ-loop
-shared-slice-copy-out-less c = omega (arith, (c .before .before .pre) .0)
+shared-slice-copy-out-less c = search needs
 
 less-requires : tie.Need-less-requires Inv-loop μ-loop
 less-requires c κs = search needs
 
 returns : tie.Need-returns Inv-loop μ-loop
-returns c = nonnegative-stop (placed leftAt ((c .before .before .before .before .before .args) .coeffs .now)) ((c .before .before .before .before .before .args) .n) ((c .before .before .before .before .loop) .i) ((c .before .before .before .before .loop) .inv) (omega arith) (rw (coefficient-at leftAt ((c .before .before .before .before .before .args) .coeffs .now) ((c .before .before .before .before .loop) .i) (omega (arith, (c .before .before .before .before .before .pre) .1))) (sym (rw (back _ ((c .before .before .less-arg) .given)) at ((c .before .less) .ensures)) ∙ (c .if1) .taken))
+returns c = nonnegative-stop (placed ((c .before .before .before .before .before .args) .at) ((c .before .before .before .before .before .args) .coeffs .now)) ((c .before .before .before .before .before .args) .n) ((c .before .before .before .before .loop) .i) ((c .before .before .before .before .loop) .inv) (omega arith) (rw (coefficient-at ((c .before .before .before .before .before .args) .at) ((c .before .before .before .before .before .args) .coeffs .now) ((c .before .before .before .before .loop) .i) (omega (arith, (c .before .before .before .before .before .pre) .2))) (sym (rw (back _ ((c .before .before .less-arg) .given)) at ((c .before .less) .ensures)) ∙ (c .if1) .taken))
 
 add-i : tie.Need-add-i Inv-loop μ-loop
 add-i c = omega arith
@@ -43,10 +42,10 @@ loop-less : tie.Need-loop-less Inv-loop μ-loop
 loop-less c = omega arith
 
 loop-again : tie.Need-loop-again Inv-loop μ-loop
-loop-again c = nonnegative-more (placed leftAt ((c .before .before .before .before .before .args) .coeffs .now)) ((c .before .before .before .before .before .args) .n) ((c .before .before .before .before .loop) .i) ((c .before .before .before .before .loop) .inv) (omega arith) (rw (coefficient-at leftAt ((c .before .before .before .before .before .args) .coeffs .now) ((c .before .before .before .before .loop) .i) (omega (arith, (c .before .before .before .before .before .pre) .1))) (sym (rw (back _ ((c .before .before .less-arg) .given)) at ((c .before .less) .ensures)) ∙ (c .if1) .left))
+loop-again c = nonnegative-more (placed ((c .before .before .before .before .before .args) .at) ((c .before .before .before .before .before .args) .coeffs .now)) ((c .before .before .before .before .before .args) .n) ((c .before .before .before .before .loop) .i) ((c .before .before .before .before .loop) .inv) (omega arith) (rw (coefficient-at ((c .before .before .before .before .before .args) .at) ((c .before .before .before .before .before .args) .coeffs .now) ((c .before .before .before .before .loop) .i) (omega (arith, (c .before .before .before .before .before .pre) .2))) (sym (rw (back _ ((c .before .before .less-arg) .given)) at ((c .before .less) .ensures)) ∙ (c .if1) .left))
 
 returns-2 : tie.Need-returns-2 Inv-loop μ-loop
-returns-2 c = nonnegative-end (placed leftAt ((c .before .before .args) .coeffs .now)) ((c .before .before .args) .n) ((c .before .loop) .i) ((c .before .loop) .inv) (omega arith)
+returns-2 c = nonnegative-end (placed ((c .before .before .args) .at) ((c .before .before .args) .coeffs .now)) ((c .before .before .args) .n) ((c .before .loop) .i) ((c .before .loop) .inv) (omega arith)
 
 pub nonnegative-spec : {M : Type 1} → statement M
 nonnegative-spec =

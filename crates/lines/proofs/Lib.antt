@@ -1,0 +1,9 @@
+pub mod Pigeons
+pub mod Holding
+pub mod Words
+pub mod Growing
+pub mod Doing
+pub mod Rooming
+pub mod Passing
+pub mod Leaving
+pub mod Filing
