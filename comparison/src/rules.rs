@@ -28,17 +28,15 @@ pub const RULES: [Rule; 8] = [
 ];
 
 /// What has answers: the rules of steps, and pol lines.
-pub const ANSWERING: [Rule; 9] = [
-    Rule::Addition,
-    Rule::Multiplication,
-    Rule::Division,
-    Rule::Saturation,
-    Rule::Literal,
-    Rule::Normalize,
-    Rule::Transfer,
-    Rule::Part,
-    Rule::Pol,
-];
+pub const ANSWERING: [Rule; RULES.len() + 1] = {
+    let mut all = [Rule::Pol; RULES.len() + 1];
+    let mut at = 0;
+    while at < RULES.len() {
+        all[at] = RULES[at];
+        at += 1;
+    }
+    all
+};
 
 /// How many numbers an answer can be: 0 to 54.
 pub const ANSWERS: usize = 55;
