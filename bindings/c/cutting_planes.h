@@ -37,7 +37,7 @@ extern "C" {
  * No pointer may be null, also where its length is 0; nodes is aligned as a uint32_t is. The three may not overlap. The library keeps no
  * pointer after it returns, has no state of its own, calls no function that has, and allocates nothing: calls from several threads
  * at once are fine as long as no two of them share a table. A call took up to 123,600 bytes of stack on the
- * deepest texts, and on one with pol lines, for which it makes a larger table, up to 892,416; have 2 MB free.
+ * deepest texts, and on one with pol lines, for which it makes a larger table, up to 901,448; have 2 MB free.
  */
 size_t cutting_planes_check(
     const uint8_t *text, size_t text_length,
@@ -61,7 +61,7 @@ size_t cutting_planes_check(
  *
  * No pointer may be null, also where its length is 0; nodes is aligned as a uint32_t is. opb and text are only read and may overlap each
  * other; nodes and report may overlap nothing. All else is as above. A call took up to 203,488 bytes of stack on the longest
- * and deepest texts without pol lines, and up to 960,000 with them; have 2 MB free.
+ * and deepest texts without pol lines, and up to 969,048 with them; have 2 MB free.
  */
 size_t cutting_planes_check_opb(
     const uint8_t *opb, size_t opb_length,

@@ -228,13 +228,22 @@ fn long_pol_line() -> String {
 /// Texts of pol lines.
 pub fn pol_texts() -> Vec<Text> {
     vec![
+        text("2 assumptions, 1 pol line", ODD_POL.into()),
         text("64 pol lines of five summands", short_pol_lines()),
         text("64 pol lines of sixty literals", wide_pol_lines()),
         text("a pol line of 1,026 words, a stack of 32", long_pol_line()),
     ]
 }
 
-/// An example.
+/// A refutation by one pol line.
+const ODD_POL: &str = "(assume a (>= (+ (* 2 x) (* 2 y)) 3))
+(assume b (>= (+ (* -2 x) (* -2 y)) -3))
+(pol p a 2 d 2 * b +)
+";
+
+/// Examples.
+const PIGEONS: &str = include_str!("../../../examples/pol/pigeons.opb");
+const PIGEONS_PROOF: &str = include_str!("../../../examples/pol/pigeons.proof");
 const ODD: &str = include_str!("../../../examples/opb/odd.opb");
 const ODD_PROOF: &str = include_str!("../../../examples/opb/odd.proof");
 
@@ -255,6 +264,7 @@ pub fn pairs() -> Vec<Pair> {
         pair("a model of 2 KB, a proof of 2 KB", model(2_048), steps_behind(2_048)),
         pair("a model of 2 KB, a proof of 16 KB", model(2_048), steps_behind(16_384)),
         pair("a model with comments, 32 KB, a proof of 8 KB", commented_model(32_768), steps_behind(8_192)),
+        pair("a model of 22 constraints, 4 pol lines", PIGEONS.into(), PIGEONS_PROOF.into()),
         pair("no model, small steps, 32 KB", String::new(), small_steps(32_768)),
     ]
 }

@@ -1,5 +1,6 @@
 // The checker: reads a text, answers its steps, marks its lines, and writes the report.
 use heads::MAX_COMMANDS;
+use heads::MAX_NODES;
 use heads::PolHead;
 use heads::closes;
 use heads::pol_word;
@@ -17,8 +18,10 @@ use matching::Answer;
 use nodes::wide;
 use nodes::wide_short;
 use opb_reader::read_both;
+use pol::STACK_WORDS;
 use reader::COMMAND_WORDS;
 use reader::ID_INDEX;
+use reader::MAX_POLS;
 use reader::MAX_TEXT;
 use reader::NODE_WORDS;
 use reader::TOO_LONG;
@@ -30,6 +33,7 @@ use report::write_report;
 use steps::check_step;
 use sums::ENTRIES;
 use sums::SLOTS;
+use terms::HASHES;
 use terms::place_of;
 use wider::index_names;
 use wider::widen;
@@ -56,17 +60,17 @@ ghost use Rattle.lines.specs.Running.{HeadIn};
 // The least report that a call has to be lent; of the node table the least is reader::NODE_WORDS.
 pub const REPORT_BYTES: usize = 65536;
 
-// The words of the table of a file with pol lines: 26,816 nodes, 4,096 of the file, 323 of each of 64 clauses and 2,048 names.
-const TABLE_WORDS: usize = 107264;
+// The nodes of the table of a file with pol lines: those of the file, 323 of each of 64 clauses, and 2,048 names.
+const WIDE_NODES: usize = MAX_NODES + 323 * MAX_POLS + 2048;
+
+// The words of that table.
+const TABLE_WORDS: usize = 4 * WIDE_NODES;
 
 // The words of the index of its names.
-const NAME_WORDS: usize = 27840;
+const NAME_WORDS: usize = HASHES + WIDE_NODES;
 
-// The slots of its keys.
-const SLOT_WORDS: usize = 107264;
-
-// The entries of a stack and of the sums below it.
-const STACK_WORDS: usize = 5152;
+// The slots of its keys, two of each node in each of two sums.
+const SLOT_WORDS: usize = 4 * WIDE_NODES;
 
 // The bytes of an OPB text, the ids of 512 assumptions and a proof text.
 const JOINED_BYTES: usize = 67476;

@@ -10,6 +10,7 @@ use links::KIND_WORD;
 use links::word_of;
 use matching::MISCOUNTED;
 use nodes::wide_short;
+use opb::SUMMAND_WORDS;
 use opb_terms::put_inequality;
 use pol::STACK_ENTRIES;
 use pol::add_top;
@@ -22,6 +23,7 @@ use pol::saturate_top;
 use pol::times_top;
 use reader::ID_INDEX;
 use reader::ID_WORDS;
+use reader::POL_LINE;
 use terms::place_of;
 use wider::leave_names;
 ghost use mathlib.Core.Path.{_≡_};
@@ -44,7 +46,7 @@ ghost use Rattle.lines.specs.Lines.{LeftIs, LineRun, PartPut, CommandRun
 ghost use Rattle.terms.specs.Spans.{maxShort};
 
 // The kind of a pol line among the commands.
-pub const POL_KIND: usize = 9;
+pub const POL_KIND: usize = POL_LINE as usize;
 
 // A word was done: its number, the nodes and the entries in use then.
 pub struct Worked {
@@ -551,9 +553,6 @@ fn run_commands(
         k += 1;
     }
 }
-
-// The words of 1,364 summands, as an OPB constraint's are stored.
-const SUMMAND_WORDS: usize = 6820;
 
 // Runs the pol lines among all commands, behind n nodes and c child words: their clauses become nodes, their numbers stand among the numbers.
 pub fn run_lines(

@@ -2,14 +2,14 @@
 use mathlib.Core.Path.{_≡_, refl, sym, ap, _∙_}
 use mathlib.Core.Bool.{Bool, true, false, _&&_}
 use mathlib.Core.List.{List, [], _∷_}
-use Prim.Native.Nat.{ℕ, zero, suc, _+_, _≤_, _<_, max}
+use Prim.Native.Nat.{ℕ, zero, suc, _+_, _-_, _≤_, _<_, max}
 use native.Mathlib.Numerals.{add-one}
 use native.Mathlib.Omega.{arith}
-use lib.ListN.{length, getD, drop}
-use lib.Seq.{drop-cons}
+use lib.ListN.{length, getD, take, drop}
+use lib.Seq.{drop-cons, getD-take, getD-drop, take-add, drop-at, length-take-le, slice, length-slice}
 use Rattle.calculus.specs.Terms.{Term, Terms, nil, cons, listed}
-use Rattle.nodes.specs.Nodes.{plusKind, kindAt, firstAt, secondAt, childrenAt, decode, Below, Node}
-use Rattle.nodes.proofs.Tables.{below-at}
+use Rattle.nodes.specs.Nodes.{plusKind, childBase, kindAt, firstAt, secondAt, childrenAt, decode, Below, Node}
+use Rattle.nodes.proofs.Tables.{children-length, children-room, below-at}
 use Rattle.matching.proofs.Matches.{node-before}
 use Rattle.matching.specs.Matched.{AllNodes}
 use Rattle.marks.specs.Arguments.{argumentsAt}
@@ -41,6 +41,21 @@ module _ {t : List ℕ} {i : ℕ} (N : Node t i) (g : kindAt t i < plusKind) whe
   pub children-end : endOf (children t i) ≤ i
   children-end = end-below (children t i) (N .table .before i (N .below) g)
 
+  pub children-count : length (children t i) ≡ secondAt t i
+  children-count = children-length t (firstAt t i) (secondAt t i) (omega (arith, children-room N g))
+
+  -- they are the words of the table from b + a on
+  module _ {b a m : ℕ} (p : b ≡ childBase t) (q : a ≡ firstAt t i) (r : m ≡ secondAt t i) where
+    pub children-inside : b + a + m ≤ length t
+    children-inside = omega (arith, children-room N g)
+
+    pub children-part : slice (b + a) (b + a + m) t ≡ children t i
+    unfolding childrenAt
+    children-part =
+        rw (take-add (b + a) m t)
+        (drop-at (take (b + a) t) (take m (drop (b + a) t)) (b + a) (length-take-le (b + a) t (omega (arith, children-inside)))
+        ∙ rw (p, q, r))
+
 -- ---- a test of each, in a loop that leaves at the first that fails
 drop-over : (l : List ℕ) (k : ℕ) → length l ≤ k → drop k l ≡ []
 drop-over [] zero h = refl
@@ -55,6 +70,27 @@ drop-start (x ∷ l) = refl
 -- from k on the answer of the test is that for the whole
 pub record Rest (all : Terms → Bool) (t l : List ℕ) (k : ℕ) : Type 0 where
   pub is : (s : List ℕ) → all (argumentsAt s t (drop k l)) ≡ all (argumentsAt s t l)
+
+-- the same of the words from..to of the table, and that k is not before them
+pub record Left (all : Terms → Bool) (t : List ℕ) (from to k : ℕ) : Type 0 where
+  pub begun : from ≤ k
+  pub rest : Rest all t (slice from to t) (k - from)
+
+-- word k is one of them
+module _ {all : Terms → Bool} {t : List ℕ} {from to k : ℕ} (L : Left all t from to k) (room : to ≤ length t) (h : k < to) where
+  left-inside : k - from < length (slice from to t)
+  left-inside = rw (length-slice from to t room) (omega (arith, L .begun))
+
+  left-at : getD (slice from to t) (k - from) 0 ≡ getD t k 0
+  left-at =
+      let e : from + (k - from) ≡ k = omega (arith, L .begun) in
+      getD-drop from (take to t) (k - from) 0 ∙ rw e (getD-take to t k 0 h)
+
+  pub left-node : AllNodes t (slice from to t) → Node t (getD t k 0)
+  left-node A = rw left-at at (A (k - from) left-inside)
+
+  pub left-below : getD t k 0 < endOf (slice from to t)
+  left-below = rw left-at at (end-at (slice from to t) (k - from) left-inside)
 
 -- the test `all` asks `one` of each
 module _ (one : Term → Bool) (all : Terms → Bool) (none : all nil ≡ true) (more : (x : Term) (xs : Terms) → all (cons x xs) ≡ (one x && all xs)) where
@@ -75,3 +111,20 @@ module _ (one : Term → Bool) (all : Terms → Bool) (none : all nil ≡ true) 
     pub rest-end : length l ≤ k → (s : List ℕ) → true ≡ all (argumentsAt s t l)
     unfolding listed
     rest-end h s = sym none ∙ sym (ap (λ (m : List ℕ). all (argumentsAt s t m)) (drop-over l k h)) ∙ R .is s
+
+  pub left-start : (t : List ℕ) (from to : ℕ) → Left all t from to from
+  left-start t from to =
+      let e : from - from ≡ 0 = omega arith in
+      record { begun = omega arith; rest = rw e (rest-start t (slice from to t)) }
+
+  module _ {t : List ℕ} {from to k : ℕ} (L : Left all t from to k) (room : to ≤ length t) where
+    pub left-more : k < to → ((s : List ℕ) → true ≡ one (decode s t (getD t k 0))) → Left all t from to (k + 1)
+    left-more h e =
+        let f : k + 1 - from ≡ k - from + 1 = omega (arith, L .begun) in
+        record { begun = omega (arith, L .begun); rest = rw f (rest-more (L .rest) (left-inside L room h) (rw (left-at L room h) e)) }
+
+    pub left-stop : k < to → ((s : List ℕ) → false ≡ one (decode s t (getD t k 0))) → (s : List ℕ) → false ≡ all (argumentsAt s t (slice from to t))
+    left-stop h e = rest-stop (L .rest) (left-inside L room h) (rw (left-at L room h) e)
+
+    pub left-end : to ≤ k → (s : List ℕ) → true ≡ all (argumentsAt s t (slice from to t))
+    left-end h = rest-end (L .rest) (rw (length-slice from to t room) (omega (arith, L .begun)))

@@ -5,39 +5,41 @@ use matching::GE;
 use nodes::PLUS_KIND;
 ghost use mathlib.Core.Path.{_≡_};
 ghost use mathlib.Core.List.{List, map};
-ghost use Prim.Native.Nat.{ℕ};
+ghost use Prim.Native.Nat.{ℕ, _≤_, _<_};
+ghost use lib.ListN.{length};
+ghost use lib.Seq.{slice};
 ghost use Rattle.calculus.specs.Marks as marks;
 ghost use Rattle.calculus.specs.Truth.{isArithmetic, areArithmetic, isStatement, areStatements};
-ghost use Rattle.nodes.specs.Nodes.{decode, Node};
+ghost use Rattle.nodes.specs.Nodes.{plusKind, kindAt, decode, Node};
 ghost use Rattle.matching.specs.Matched.{AllNodes};
 ghost use Rattle.marks.specs.Arguments.{argumentsAt};
 
 // ---- arithmetic
-// Whether node i is a numeral, a name, or one of `+ - *` over arithmetic.
+// Whether node i, an application, is one of `+ - *` over arithmetic.
 fn is_arithmetic(nodes: &[u32], i: u32) -> bool
-    requires { ⌜ Node (now nodes) i ⌝ }
+    requires { ⌜ Node (now nodes) i × (kindAt (now nodes) i < plusKind) ⌝ }
     ensures { λ r. ⌜ ((s : List ℕ) → r ≡ isArithmetic (decode s (now (nodes .entry)) i)) ⌝ }
 {
     let at = nodes::wide(i);
-    let kind = nodes::kind_of(nodes, at);
-    if kind >= PLUS_KIND {
-        return true;
-    }
-    if kind >= GE {
+    if nodes::kind_of(nodes, at) >= GE {
         return false;
     }
-    are_arithmetic(nodes, nodes::children(nodes, at))
+    let from = nodes::child_base(nodes) + nodes::first_of(nodes, at);
+    are_arithmetic(nodes, from, from + nodes::second_of(nodes, at))
 }
 
-// Whether each of the arguments is arithmetic.
-fn are_arithmetic(nodes: &[u32], args: &[u32]) -> bool
-    requires { ⌜ AllNodes (now nodes) (now args) ⌝ }
-    ensures { λ r. ⌜ ((s : List ℕ) → r ≡ areArithmetic (argumentsAt s (now (nodes .entry)) (now (args .entry)))) ⌝ }
+// Whether each node of the words from..to is arithmetic: a leaf is, and is not asked by a call.
+fn are_arithmetic(nodes: &[u32], from: usize, to: usize) -> bool
+    requires { ⌜ (to ≤ length (now nodes)) × AllNodes (now nodes) (slice from to (now nodes)) ⌝ }
+    ensures { λ r. ⌜ ((s : List ℕ) → r ≡ areArithmetic (argumentsAt s (now (nodes .entry)) (slice from to (now (nodes .entry))))) ⌝ }
 {
-    let mut k: usize = 0;
-    while k < args.len() {
-        if !is_arithmetic(nodes, args[k]) {
-            return false;
+    let mut k = from;
+    while k < to {
+        let i = nodes[k];
+        if nodes::kind_of(nodes, nodes::wide(i)) < PLUS_KIND {
+            if !is_arithmetic(nodes, i) {
+                return false;
+            }
         }
         k += 1;
     }
@@ -65,7 +67,8 @@ pub fn is_statement(nodes: &[u32], i: u32) -> bool
     if args.len() != 2 {
         return false;
     }
-    if are_arithmetic(nodes, args) {
+    let from = nodes::child_base(nodes) + nodes::first_of(nodes, at);
+    if are_arithmetic(nodes, from, from + 2) {
         return true;
     }
     if kind != EQ {

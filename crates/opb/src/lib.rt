@@ -54,7 +54,7 @@ const COMMENT: u8 = 2;
 // The most summands that are stored, and their words.
 const STORED_SUMMANDS: usize = 1364;
 
-pub const SUMMAND_WORDS: usize = 6820;
+pub const SUMMAND_WORDS: usize = 5 * STORED_SUMMANDS;
 
 // The text's end; a number's sign and magnitude; whether a literal is negated, and where its word and its name begin;
 // whether a relation is `=`; each with where it begins and, but for `;`, ends; or a refusal and its byte.

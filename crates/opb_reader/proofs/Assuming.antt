@@ -1,16 +1,17 @@
 -- One assumption more in the tables: its nodes, its words and its id.
-use mathlib.Core.Path.{_≡_, sym, ap, ap₂, subst, _∙_}
+use mathlib.Core.Path.{_≡_, refl, sym, ap, ap₂, subst, _∙_}
 use mathlib.Core.Bool.{Bool, true, false}
-use mathlib.Core.List.{List, [], _∷_, _++_, map, append-assoc}
+use mathlib.Core.List.{List, [], _∷_, _++_, map, append-assoc, append-nil}
 use Prim.Native.Nat.{ℕ, zero, suc, _+_, _-_, _*_, _≤_, _<_}
 use native.Mathlib.Decide.{decLt}
 use native.Mathlib.Numerals.{add-one}
 use native.Mathlib.Omega.{arith}
 use lib.IntN.{ℤ, negℤ}
-use lib.ListN.{length, getD}
+use lib.Dec.{eqb}
+use lib.ListN.{length, getD, take}
 use lib.Seq.{slice}
 use Rattle.integer.specs.Integers.{signed}
-use Rattle.calculus.specs.OpbWriting.{inequality, turned, constraintId, assumptionsOf}
+use Rattle.calculus.specs.OpbWriting.{Summand, compare, inequality, constraintId, assumptionsOf}
 use Rattle.calculus.specs.Terms.{Term, Command, assume}
 use Rattle.calculus.specs.Words.{maxName}
 use Rattle.calculus.specs.Limits.{maxNodes, maxCommands, nodes, commandNodes, allNodes}
@@ -124,32 +125,6 @@ module _ {j a t u w x v y z : List ℕ} {d : Bool} {q k n m from to : ℕ} {b : 
 pub id-fresh : {j t w v y : List ℕ} {k n : ℕ} (from to : ℕ) → Standing j t w v y k n → k < maxCommands → slice from to j ≡ constraintId (suc k) → Fresh j w k (slice from to j)
 id-fresh from to S few is i h e = let z : suc i ≡ suc _ = id-once (suc i) (suc _) (omega arith) (omega arith) (sym (S .named i h) ∙ e ∙ is) in omega arith
 
--- ---- the assumptions of a constraint
-module _ {j a t u w x v y : List ℕ} {q k n m : ℕ} {z : ℤ} where
-  -- of `>=` one
-  of-one : AssumptionPut j a t u w x v y false q z k n m → ConstraintPut j a t u w x v y false q z k n m
-  unfolding relationOf resulting turnedIf turnedNumber assumptionsOf
-  of-one A = record { standing = A .standing; more = A .more; size = omega (arith, A .size) }
-
-  pub constraint-one : (e : Bool) → e ≡ false → AssumptionPut j a t u w x v y false q z k n m → ConstraintPut j a t u w x v y e q z k n m
-  constraint-one e p A = subst (λ (i : Bool). ConstraintPut j a t u w x v y i q z k n m) (sym p) (of-one A)
-
-  -- of `=` two, the second with all signs turned
-  of-two : {u' x' v' y' : List ℕ} {m' : ℕ} → AssumptionPut j a t u w x v y false q z k n m → AssumptionPut j a u u' x x' v' y' true q z (k + 1) m m' → ConstraintPut j a t u' w x' v' y' true q z k n m'
-  unfolding relationOf resulting turnedIf turnedNumber assumptionsOf
-  of-two {u'} {x'} {v'} {y'} {m'} A B =
-      let e : k + 1 + 1 ≡ k + 2 = omega arith in
-      record {
-        standing = subst (λ (i : ℕ). Standing j u' x' v' y' i m') e (B .standing);
-        more =
-            ap (commandsOf j u' x') (sym e) ∙ B .more ∙ ap (λ (cs : List Command). cs ++ (assume (constraintId (suc (k + 1))) (inequality (turned (summandsOf j a q)) (negℤ z)) ∷ [])) (A .more)
-            ∙ append-assoc (commandsOf j t w k) _ _ ∙ ap (λ (i : ℕ). commandsOf j t w k ++ (assume (constraintId (suc k)) (inequality (summandsOf j a q) z) ∷ assume (constraintId (suc i)) (inequality (turned (summandsOf j a q)) (negℤ z)) ∷ [])) (add-one k);
-        size = omega (arith, A .size, B .size);
-      }
-
-  pub constraint-two : {u' x' v' y' : List ℕ} {m' : ℕ} (e : Bool) → e ≡ true → AssumptionPut j a t u w x v y false q z k n m → AssumptionPut j a u u' x x' v' y' true q z (k + 1) m m' → ConstraintPut j a t u' w x' v' y' e q z k n m'
-  constraint-two {u'} {x'} {v'} {y'} {m'} e p A B = subst (λ (i : Bool). ConstraintPut j a t u' w x' v' y' i q z k n m') (sym p) (of-two A B)
-
 -- ---- what the makers ask, and what they leave
 -- the nodes of an assumption's term
 term-nodes : (j a : List ℕ) (d : Bool) (q : ℕ) (b : ℤ) → nodes (termOf j a d q b) ≡ inequalityNodes q (negations (summandsOf j a q))
@@ -225,43 +200,102 @@ module _ {j a t w v y : List ℕ} {b q k n : ℕ} {negative : Bool} {magnitude :
         assumption-put {from = b + f} {to = b + g} (A .standing) few P Q X up id-room near is (term-nodes j a d q (signed negative magnitude)) v' long
 
 -- ---- one assumption after another
+-- the first i assumptions of a constraint stand in the tables u and x; the lent slices are as long as before
+pub record Partly (j a t u w x v v' y y' : List ℕ) (e : Bool) (q : ℕ) (z : ℤ) (k n i m : ℕ) : Type 0 where
+  pub standing : Standing j u x v' y' (k + i) m
+  pub more : commandsOf j u x (k + i) ≡ commandsOf j t w k ++ take i (assumptionsOf k (compare (summandsOf j a q) (relationOf e) z))
+  pub size : m ≡ n + i * inequalityNodes q (negations (summandsOf j a q))
+  pub most : i ≤ resulting (relationOf e)
+  pub table : length u ≡ length t
+  pub words : length x ≡ length w
+  pub stack : length v' ≡ length v
+  pub tags : length y' ≡ length y
+
+-- assumption i of a constraint: the second has all signs turned
+next-of : (e : Bool) (k i : ℕ) (ss : List Summand) (z : ℤ) → i < resulting (relationOf e)
+    → take (i + 1) (assumptionsOf k (compare ss (relationOf e) z)) ≡ take i (assumptionsOf k (compare ss (relationOf e) z)) ++ (assume (constraintId (suc (k + i))) (inequality (turnedIf (eqb i 1) ss) (turnedNumber (eqb i 1) z)) ∷ [])
+unfolding resulting relationOf assumptionsOf turnedIf turnedNumber
+next-of false k zero ss z h = let same : k + 0 ≡ k = omega arith in rw same
+next-of false k (suc i) ss z h = let z : ⊥ = omega arith in absurd z
+next-of true k zero ss z h = let same : k + 0 ≡ k = omega arith in rw same
+next-of true k (suc zero) ss z h = let same : k + 1 ≡ suc k = omega arith in rw same
+next-of true k (suc (suc i)) ss z h = let z : ⊥ = omega arith in absurd z
+
+all-of : (e : Bool) (k i : ℕ) (ss : List Summand) (z : ℤ) → i ≡ resulting (relationOf e) → take i (assumptionsOf k (compare ss (relationOf e) z)) ≡ assumptionsOf k (compare ss (relationOf e) z)
+unfolding resulting relationOf assumptionsOf
+all-of false k i ss z h = rw h
+all-of true k i ss z h = rw h
+
+-- room for one more of r
+one-more-room : (r i I n m l : ℕ) → r ≤ 2 → i < r → m ≡ n + i * I → n + r * I ≤ l → m + 1 * I ≤ l
+one-more-room zero i I n m l f h s b = let z : ⊥ = omega arith in absurd z
+one-more-room (suc zero) zero I n m l f h s b = omega arith
+one-more-room (suc zero) (suc i) I n m l f h s b = let z : ⊥ = omega arith in absurd z
+one-more-room (suc (suc zero)) zero I n m l f h s b = omega arith
+one-more-room (suc (suc zero)) (suc zero) I n m l f h s b = omega arith
+one-more-room (suc (suc zero)) (suc (suc i)) I n m l f h s b = let z : ⊥ = omega arith in absurd z
+one-more-room (suc (suc (suc r))) i I n m l f h s b = let z : ⊥ = omega arith in absurd z
+
+one-more-size : (i I n m m' : ℕ) → i < 2 → m ≡ n + i * I → m' ≡ m + I → m' ≡ n + (i + 1) * I
+one-more-size zero I n m m' h s e = omega arith
+one-more-size (suc zero) I n m m' h s e = omega arith
+one-more-size (suc (suc i)) I n m m' h s e = let z : ⊥ = omega arith in absurd z
+
+at-most-two : (e : Bool) → resulting (relationOf e) ≤ 2
+unfolding resulting relationOf
+at-most-two true = omega arith
+at-most-two false = omega arith
+
 module _ {j a t w v y : List ℕ} {b q k n : ℕ} {negative : Bool} {magnitude : ℕ} (e : Bool) (A : Assuming j a t w v y b q negative magnitude k n (resulting (relationOf e))) where
-  some-one : 1 ≤ resulting (relationOf e)
-  unfolding resulting relationOf
-  some-one = go e
-    where
-      go : (e : Bool) → 1 ≤ resulting (relationOf e)
-      go true = omega arith
-      go false = omega arith
-
-  -- the first
-  pub assuming-first : Assuming j a t w v y b q negative magnitude k n 1
-  assuming-first = record {
-    long = A .long;
-    ids = A .ids;
-    standing = A .standing;
-    summands = A .summands;
-    constant = A .constant;
-    few = omega (arith, A .few, some-one);
-    room = one-of (resulting (relationOf e)) some-one (A .room);
-  }
-    where
-      one-of : (r : ℕ) → 1 ≤ r → n + r * inequalityNodes q (negations (summandsOf j a q)) ≤ maxNodes → n + 1 * inequalityNodes q (negations (summandsOf j a q)) ≤ maxNodes
-      one-of zero h l = let z : ⊥ = omega arith in absurd z
-      one-of (suc r) h l = omega arith
-
-  -- the second, where there is one
-  pub assuming-second : {u x v' y' : List ℕ} {m : ℕ} {d : Bool} {z : ℤ} → e ≡ true → AssumptionPut j a t u w x v' y' d q z k n m → Assuming j a u x v' y' b q negative magnitude (k + 1) m 1
-  unfolding resulting relationOf
-  assuming-second p B =
-      let two : resulting (relationOf e) ≡ 2 = ap (λ (i : Bool). resulting (relationOf i)) p in
-      let room : n + 2 * inequalityNodes q (negations (summandsOf j a q)) ≤ maxNodes = subst (λ (i : ℕ). n + i * inequalityNodes q (negations (summandsOf j a q)) ≤ maxNodes) two (A .room) in
+  pub partly-start : (z : ℤ) → Partly j a t t w w v v y y e q z k n 0 n
+  partly-start z =
+      let same : k + 0 ≡ k = omega arith in
       record {
+        standing = rw same (A .standing);
+        more = rw same (sym (append-nil (commandsOf j t w k)));
+        size = omega arith;
+        most = omega arith;
+        table = refl;
+        words = refl;
+        stack = refl;
+        tags = refl;
+      }
+
+  module _ {u x v' y' : List ℕ} {i m : ℕ} {z : ℤ} (P : Partly j a t u w x v v' y y' e q z k n i m) where
+    module _ (h : i < resulting (relationOf e)) where
+      -- there is room for the next
+      pub partly-asks : Assuming j a u x v' y' b q negative magnitude (k + i) m 1
+      partly-asks = record {
         long = A .long;
         ids = A .ids;
-        standing = B .standing;
+        standing = P .standing;
         summands = A .summands;
         constant = A .constant;
-        few = omega (arith, A .few, two);
-        room = omega (arith, B .size, room);
+        few = omega (arith, A .few);
+        room = one-more-room (resulting (relationOf e)) i _ n m maxNodes (at-most-two e) h (P .size) (A .room);
       }
+
+      pub partly-more : {u' x' v'' y'' : List ℕ} {m' : ℕ} → AssumptionPut j a u u' x x' v'' y'' (eqb i 1) q z (k + i) m m' → length u' ≡ length u → length x' ≡ length x → length v'' ≡ length v' → length y'' ≡ length y' → Partly j a t u' w x' v v'' y y'' e q z k n (i + 1) m'
+      partly-more {u'} {x'} {v''} {y''} {m'} B long same stack tags =
+          let next : k + i + 1 ≡ k + (i + 1) = omega arith in
+          record {
+            standing = subst (λ (p : ℕ). Standing j u' x' v'' y'' p m') next (B .standing);
+            more =
+                ap (commandsOf j u' x') (sym next) ∙ B .more ∙ ap (λ (cs : List Command). cs ++ (assume (constraintId (suc (k + i))) (inequality (turnedIf (eqb i 1) (summandsOf j a q)) (turnedNumber (eqb i 1) z)) ∷ [])) (P .more)
+                ∙ append-assoc (commandsOf j t w k) _ _ ∙ ap (λ (cs : List Command). commandsOf j t w k ++ cs) (sym (next-of e k i (summandsOf j a q) z h));
+            size = one-more-size i _ n m m' (omega (arith, at-most-two e)) (P .size) (B .size);
+            most = omega arith;
+            table = long ∙ P .table;
+            words = same ∙ P .words;
+            stack = stack ∙ P .stack;
+            tags = tags ∙ P .tags;
+          }
+
+    pub partly-end : resulting (relationOf e) ≤ i → ConstraintPut j a t u w x v' y' e q z k n m
+    partly-end h =
+        let same : i ≡ resulting (relationOf e) = omega (arith, P .most) in
+        record {
+          standing = subst (λ (p : ℕ). Standing j u x v' y' (k + p) m) same (P .standing);
+          more = ap (λ (p : ℕ). commandsOf j u x (k + p)) (sym same) ∙ P .more ∙ ap (λ (cs : List Command). commandsOf j t w k ++ cs) (all-of e k i (summandsOf j a q) z same);
+          size = subst (λ (p : ℕ). m ≡ n + p * inequalityNodes q (negations (summandsOf j a q))) same (P .size);
+        }

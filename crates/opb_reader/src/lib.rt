@@ -91,7 +91,14 @@ fn put_assumption(
     m
 }
 
-// Writes the assumptions of a constraint: of `=` two, the second with all signs turned.
+// How many assumptions a constraint becomes.
+fn resulting(equal: bool) -> usize
+    ensures { λ r. ⌜ (r ≡ resulting (relationOf equal)) × (r ≤ 2) ⌝ }
+{
+    if equal { 2 } else { 1 }
+}
+
+// Writes the assumptions of a constraint: of `=` two, the second with all signs turned. They are written from one place, so that the compiler makes no call of it.
 fn put_constraint(
     string: &[u8],
     ids: usize,
@@ -110,37 +117,26 @@ fn put_constraint(
     requires { ⌜ Assuming (now string) (now summands) (now nodes) (now commands) (now pending) (now names) ids count negative magnitude k n (resulting (relationOf equal)) ⌝ }
     ensures { λ r. ⌜ ConstraintPut (now (string .entry)) (now (summands .entry)) (now (nodes .entry)) (now (nodes .exit)) (now (commands .entry)) (now (commands .exit)) (now (pending .exit)) (now (names .exit)) equal count (signed negative magnitude) k n r ⌝ }
 {
-    let m = put_assumption(
-        string,
-        ids,
-        summands,
-        count,
-        false,
-        negative,
-        magnitude,
-        nodes,
-        commands,
-        pending,
-        names,
-        k,
-        n,
-    );
-    if equal {
-        return put_assumption(
+    let more = resulting(equal);
+    let mut j = 0;
+    let mut m = n;
+    while j < more {
+        m = put_assumption(
             string,
             ids,
             summands,
             count,
-            true,
+            j == 1,
             negative,
             magnitude,
             nodes,
             commands,
             pending,
             names,
-            k + 1,
+            k + j,
             m,
         );
+        j += 1;
     }
     m
 }
@@ -149,13 +145,6 @@ fn put_constraint(
 pub enum Model {
     Assumed(usize, usize),
     Not(u8, usize),
-}
-
-// How many assumptions a constraint becomes.
-fn resulting(equal: bool) -> usize
-    ensures { λ r. ⌜ (r ≡ resulting (relationOf equal)) × (r ≤ 2) ⌝ }
-{
-    if equal { 2 } else { 1 }
 }
 
 // Reads an OPB text, which stands at the front of the string: its constraints one by one, each judged before its assumptions are made.

@@ -9,7 +9,7 @@ use lib.Seq.{ext-getD, getD-take}
 use Rattle.calculus.specs.Pol.{maxStack}
 use Rattle.calculus.specs.Terms.{Term}
 use Rattle.matching.specs.Entries.{run, entryAt, entries}
-use Rattle.matching.specs.Places.{maxEntries, part, Apart, Others}
+use Rattle.matching.specs.Places.{maxEntries, part, placed, Apart, Others}
 use Rattle.matching.proofs.Places.{part-get, part-length}
 use Rattle.sums.specs.Places.{conclusionAt}
 use Rattle.pol.specs.Stack.{entryWords, stackWords, baseOf, window}
@@ -20,6 +20,10 @@ window-get e l z i h = part-get (baseOf e) entryWords l z i h
 
 pub window-length : {A : Type 0} (e : ℕ) (l : List A) → e < maxStack → stackWords ≤ length l → length (window e l) ≡ entryWords
 window-length e l h g = part-length (baseOf e) entryWords l (omega arith)
+
+-- and what stands at its place
+pub placed-window : {A : Type 0} (e : ℕ) (l : List A) (z : A) (i : ℕ) → i < entryWords → getD (placed (baseOf e) l) i z ≡ getD (window e l) i z
+placed-window e l z i h = part-get (baseOf e) maxEntries l z i (omega arith) ∙ sym (window-get e l z i h)
 
 -- the same words, one by one
 pub window-same : {A : Type 0} (e : ℕ) (l m : List A) (z : A) → e < maxStack → stackWords ≤ length l → stackWords ≤ length m

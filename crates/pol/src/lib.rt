@@ -1,4 +1,5 @@
 // Pol lines (02, No. 2): a stack machine over sums. The stack stands behind the three sums of a rule, in the same lent arrays.
+use lexer::MAX_NUMERAL;
 use links::CLAUSE_WORD;
 use links::part_of;
 use matching::BEYOND;
@@ -6,6 +7,7 @@ use matching::MISCOUNTED;
 use matching::UNFIT;
 use nodes::NAME_KIND;
 use rules::By;
+use sums::ENTRIES;
 use sums::LEFT;
 use sums::RIGHT;
 ghost use mathlib.Core.Path.{_≡_};
@@ -28,9 +30,9 @@ ghost use Rattle.pol.specs.Stack.{stackWords, window, constantOf, countO
 ghost use Rattle.pol.specs.Pushing.{LinePushed, NumberedAs, AxiomPut};
 
 // Where the stack begins, and the words of an entry: up to 64 literals, and behind them its constant and their number.
-pub const STACK: usize = 3072;
+pub const STACK: usize = ENTRIES;
 
-const ENTRY: usize = 65;
+const ENTRY: usize = LITERALS + 1;
 
 // The most literals of an entry.
 pub const LITERALS: usize = 64;
@@ -86,9 +88,9 @@ fn load(
 }
 
 // The ends of the numeral range.
-const LEAST: i64 = -99999999;
+const LEAST: i64 = -GREATEST;
 
-const GREATEST: i64 = 99999999;
+const GREATEST: i64 = MAX_NUMERAL as i64;
 
 // Whether a number is not beyond the numeral range.
 fn in_range(z: i64) -> bool
@@ -173,7 +175,7 @@ pub struct Total {
     pub constant: i64,
 }
 
-// The two top entries of d added and reduced: the keys where the first premise of a rule stands, the coefficients where the second does.
+// The two top entries of d, the top added to the other where the first premise of a rule stands, and reduced: the keys stand there, the coefficients where the second does.
 fn sum_of_two(
     nodes: &[u32],
     coeffs: &mut [i64],
@@ -187,10 +189,11 @@ fn sum_of_two(
 {
     let total = integer::add(constant_of(coeffs, d - 2), constant_of(coeffs, d - 1));
     let n = load(nodes, coeffs, keys, slots, d - 2, LEFT);
-    let m = load(nodes, coeffs, keys, slots, d - 1, RIGHT);
+    let m = count_of(keys, d - 1);
+    let top = STACK + ENTRY * (d - 1);
 
     // Add both sides regardless of negation
-    let both = sums::add_pbsums(nodes, coeffs, keys, slots, LEFT, n, RIGHT, m);
+    let both = sums::add_pbsums(nodes, coeffs, keys, slots, LEFT, n, top, m);
 
     // Apply reduction to cancel out opposite coefficients
     let slack = sums::reduce_pbsum(nodes, coeffs, keys, slots, LEFT, both, RIGHT);
@@ -313,6 +316,9 @@ pub fn saturate_top(coeffs: &mut [i64], keys: &[u32], d: usize) -> u8
 // ---- pushes
 // The most entries of the stack.
 pub const STACK_ENTRIES: usize = 32;
+
+// The words of the stack and of the sums below it.
+pub const STACK_WORDS: usize = STACK + ENTRY * STACK_ENTRIES;
 
 // The clause of command j, an id, as one entry more on d. 0, or the number of what is wrong.
 pub fn push_line(

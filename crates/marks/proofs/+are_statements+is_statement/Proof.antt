@@ -1,6 +1,6 @@
 -- `marks::are_statements` and `marks::is_statement` say whether terms are statements: each way out is one law of proofs/Statements or proofs/Arguments.
 -- The nodes fall with each turn of the cycle: children stand before their parent.
-use mathlib.Core.Path.{ap}
+use mathlib.Core.Path.{_≡_, ap}
 use Prim.Native.Nat.{ℕ, _<_, _+_, _-_, _*_}
 use native.Mathlib.Omega.{arith}
 use borrow.Fn.Kinds.{In}
@@ -9,13 +9,16 @@ use borrow.Author.Needs.{needs}
 use borrow.Author.Tests.{not-true, not-false}
 use lib.ListN.{length}
 use Rattle.calculus.specs.Truth.{isStatement, areStatements}
-use Rattle.nodes.specs.Nodes.{plusKind, kindAt}
+use Rattle.nodes.specs.Nodes.{plusKind, kindAt, secondAt}
+use Rattle.nodes.proofs.Tables.{children-room}
 use Rattle.matching.proofs.Matches.{node-room}
 use Rattle.marks.proofs.+are_statements+is_statement.{statement}
 use Rattle.marks.proofs.+are_statements+is_statement.Tie.{close}
-use Rattle.marks.proofs.Arguments.{endOf, end-at, children-nodes, children-end, Rest, rest-start, rest-more, rest-stop, rest-end}
+use Rattle.marks.proofs.Arguments.{endOf, end-at, children-nodes, children-end, children-count, children-inside, children-part, Rest, rest-start, rest-more, rest-stop, rest-end}
 use Rattle.marks.proofs.Statements.{statements-none, statements-more, statement-low, statement-leaf, statement-and, statement-count, statement-arithmetic, statement-relation, statement-equal}
+use Rattle.nodes.proofs.child_base.Reads as child-base-reads
 use Rattle.nodes.proofs.children.Reads as children-reads
+use Rattle.nodes.proofs.first_of.Reads as first-of-reads
 use Rattle.nodes.proofs.kind_of.Reads as kind-of-reads
 use Rattle.nodes.proofs.wide.Reads as wide-reads
 use Rattle.marks.proofs.are_statements.Reads as are-statements
@@ -130,6 +133,10 @@ is-statement-wide-requires : (t : ℕ) → is-statement-lts.Need-wide-requires (
   children-reads.Learnt,
   are-statements-below t,
   are-statements.Post,
+  child-base-reads.Asked,
+  child-base-reads.Learnt,
+  first-of-reads.Asked,
+  first-of-reads.Learnt,
   are-arithmetic-reads.Asked,
   are-arithmetic-reads.Learnt,
 ) (is-statement-at t) is-statement.Post
@@ -144,6 +151,10 @@ is-statement-kind-of-requires : (t : ℕ) → is-statement-lts.Need-kind-of-requ
   children-reads.Learnt,
   are-statements-below t,
   are-statements.Post,
+  child-base-reads.Asked,
+  child-base-reads.Learnt,
+  first-of-reads.Asked,
+  first-of-reads.Learnt,
   are-arithmetic-reads.Asked,
   are-arithmetic-reads.Learnt,
 ) (is-statement-at t) is-statement.Post
@@ -158,6 +169,10 @@ is-statement-returns : (t : ℕ) → is-statement-lts.Need-returns (
   children-reads.Learnt,
   are-statements-below t,
   are-statements.Post,
+  child-base-reads.Asked,
+  child-base-reads.Learnt,
+  first-of-reads.Asked,
+  first-of-reads.Learnt,
   are-arithmetic-reads.Asked,
   are-arithmetic-reads.Learnt,
 ) (is-statement-at t) is-statement.Post
@@ -174,6 +189,10 @@ is-statement-returns-2 : (t : ℕ) → is-statement-lts.Need-returns-2 (
   children-reads.Learnt,
   are-statements-below t,
   are-statements.Post,
+  child-base-reads.Asked,
+  child-base-reads.Learnt,
+  first-of-reads.Asked,
+  first-of-reads.Learnt,
   are-arithmetic-reads.Asked,
   are-arithmetic-reads.Learnt,
 ) (is-statement-at t) is-statement.Post
@@ -190,6 +209,10 @@ is-statement-children-requires : (t : ℕ) → is-statement-lts.Need-children-re
   children-reads.Learnt,
   are-statements-below t,
   are-statements.Post,
+  child-base-reads.Asked,
+  child-base-reads.Learnt,
+  first-of-reads.Asked,
+  first-of-reads.Learnt,
   are-arithmetic-reads.Asked,
   are-arithmetic-reads.Learnt,
 ) (is-statement-at t) is-statement.Post
@@ -206,6 +229,10 @@ is-statement-are-statements-requires : (t : ℕ) → is-statement-lts.Need-are-s
   children-reads.Learnt,
   are-statements-below t,
   are-statements.Post,
+  child-base-reads.Asked,
+  child-base-reads.Learnt,
+  first-of-reads.Asked,
+  first-of-reads.Learnt,
   are-arithmetic-reads.Asked,
   are-arithmetic-reads.Learnt,
 ) (is-statement-at t) is-statement.Post
@@ -223,6 +250,10 @@ is-statement-returns-3 : (t : ℕ) → is-statement-lts.Need-returns-3 (
   children-reads.Learnt,
   are-statements-below t,
   are-statements.Post,
+  child-base-reads.Asked,
+  child-base-reads.Learnt,
+  first-of-reads.Asked,
+  first-of-reads.Learnt,
   are-arithmetic-reads.Asked,
   are-arithmetic-reads.Learnt,
 ) (is-statement-at t) is-statement.Post
@@ -240,6 +271,10 @@ is-statement-returns-4 : (t : ℕ) → is-statement-lts.Need-returns-4 (
   children-reads.Learnt,
   are-statements-below t,
   are-statements.Post,
+  child-base-reads.Asked,
+  child-base-reads.Learnt,
+  first-of-reads.Asked,
+  first-of-reads.Learnt,
   are-arithmetic-reads.Asked,
   are-arithmetic-reads.Learnt,
 ) (is-statement-at t) is-statement.Post
@@ -247,6 +282,87 @@ is-statement-returns-4 t c =
     let kind = rw ((c .before .before .before .before .before .before .wide) .ensures) at ((c .before .before .before .before .before .kind-of) .ensures) in
     let same = rw ((c .before .before .before .before .before .before .wide) .ensures) at ((c .before .before .children) .ensures) in
     statement-count ((c .before .before .before .before .before .before .before .before .pre) .1) (omega (arith, kind, (c .before .before .before .before .if1) .left)) (omega (arith, kind, (c .before .before .before .if2) .left, (c .before .if3) .left)) (λ e. omega (arith, ap length same, (c .if4) .taken))
+
+is-statement-child-base-requires : (t : ℕ) → is-statement-lts.Need-child-base-requires (
+  wide-reads.Asked,
+  wide-reads.Learnt,
+  kind-of-reads.Asked,
+  kind-of-reads.Learnt,
+  children-reads.Asked,
+  children-reads.Learnt,
+  are-statements-below t,
+  are-statements.Post,
+  child-base-reads.Asked,
+  child-base-reads.Learnt,
+  first-of-reads.Asked,
+  first-of-reads.Learnt,
+  are-arithmetic-reads.Asked,
+  are-arithmetic-reads.Learnt,
+) (is-statement-at t) is-statement.Post
+is-statement-child-base-requires t c κs = search needs
+
+is-statement-first-of-requires : (t : ℕ) → is-statement-lts.Need-first-of-requires (
+  wide-reads.Asked,
+  wide-reads.Learnt,
+  kind-of-reads.Asked,
+  kind-of-reads.Learnt,
+  children-reads.Asked,
+  children-reads.Learnt,
+  are-statements-below t,
+  are-statements.Post,
+  child-base-reads.Asked,
+  child-base-reads.Learnt,
+  first-of-reads.Asked,
+  first-of-reads.Learnt,
+  are-arithmetic-reads.Asked,
+  are-arithmetic-reads.Learnt,
+) (is-statement-at t) is-statement.Post
+is-statement-first-of-requires t c κs = omega (arith, (c .before .before .before .before .before .before .before .wide) .ensures, node-room ((c .before .before .before .before .before .before .before .before .before .pre) .1))
+
+is-statement-add-from : (t : ℕ) → is-statement-lts.Need-add-from (
+  wide-reads.Asked,
+  wide-reads.Learnt,
+  kind-of-reads.Asked,
+  kind-of-reads.Learnt,
+  children-reads.Asked,
+  children-reads.Learnt,
+  are-statements-below t,
+  are-statements.Post,
+  child-base-reads.Asked,
+  child-base-reads.Learnt,
+  first-of-reads.Asked,
+  first-of-reads.Learnt,
+  are-arithmetic-reads.Asked,
+  are-arithmetic-reads.Learnt,
+) (is-statement-at t) is-statement.Post
+is-statement-add-from t c =
+    let kind = rw ((c .before .before .before .before .before .before .before .before .wide) .ensures) at ((c .before .before .before .before .before .before .before .kind-of) .ensures) in
+    let first = rw ((c .before .before .before .before .before .before .before .before .wide) .ensures) at ((c .first-of) .ensures) in
+    omega (arith, (c .before .child-base) .ensures, first, children-room ((c .before .before .before .before .before .before .before .before .before .before .pre) .1) (omega (arith, kind, (c .before .before .before .before .before .if2) .left)))
+
+is-statement-add-are-arithmetic : (t : ℕ) → is-statement-lts.Need-add-are-arithmetic (
+  wide-reads.Asked,
+  wide-reads.Learnt,
+  kind-of-reads.Asked,
+  kind-of-reads.Learnt,
+  children-reads.Asked,
+  children-reads.Learnt,
+  are-statements-below t,
+  are-statements.Post,
+  child-base-reads.Asked,
+  child-base-reads.Learnt,
+  first-of-reads.Asked,
+  first-of-reads.Learnt,
+  are-arithmetic-reads.Asked,
+  are-arithmetic-reads.Learnt,
+) (is-statement-at t) is-statement.Post
+is-statement-add-are-arithmetic t c =
+    let kind = rw ((c .before .before .before .before .before .before .before .before .wide) .ensures) at ((c .before .before .before .before .before .before .before .kind-of) .ensures) in
+    let same = rw ((c .before .before .before .before .before .before .before .before .wide) .ensures) at ((c .before .before .before .before .children) .ensures) in
+    let first = rw ((c .before .before .before .before .before .before .before .before .wide) .ensures) at ((c .first-of) .ensures) in
+    let low : kindAt ((c .before .before .before .before .before .before .before .before .before .before .args) .nodes .now) ((c .before .before .before .before .before .before .before .before .before .before .args) .i) < plusKind = omega (arith, kind, (c .before .before .before .before .before .if2) .left) in
+    let second : 2 ≡ secondAt ((c .before .before .before .before .before .before .before .before .before .before .args) .nodes .now) ((c .before .before .before .before .before .before .before .before .before .before .args) .i) = omega (arith, ap length same, (c .before .before .if4) .left, children-count ((c .before .before .before .before .before .before .before .before .before .before .pre) .1) low) in
+    omega (arith, children-inside ((c .before .before .before .before .before .before .before .before .before .before .pre) .1) low ((c .before .child-base) .ensures) first second)
 
 is-statement-are-arithmetic-requires : (t : ℕ) → is-statement-lts.Need-are-arithmetic-requires (
   wide-reads.Asked,
@@ -257,13 +373,21 @@ is-statement-are-arithmetic-requires : (t : ℕ) → is-statement-lts.Need-are-a
   children-reads.Learnt,
   are-statements-below t,
   are-statements.Post,
+  child-base-reads.Asked,
+  child-base-reads.Learnt,
+  first-of-reads.Asked,
+  first-of-reads.Learnt,
   are-arithmetic-reads.Asked,
   are-arithmetic-reads.Learnt,
 ) (is-statement-at t) is-statement.Post
 is-statement-are-arithmetic-requires t c κs =
-    let kind = rw ((c .before .before .before .before .before .before .wide) .ensures) at ((c .before .before .before .before .before .kind-of) .ensures) in
-    let same = rw ((c .before .before .before .before .before .before .wide) .ensures) at ((c .before .before .children) .ensures) in
-    rw same (children-nodes ((c .before .before .before .before .before .before .before .before .pre) .1) (omega (arith, kind, (c .before .before .before .if2) .left)))
+    let kind = rw ((c .before .before .before .before .before .before .before .before .wide) .ensures) at ((c .before .before .before .before .before .before .before .kind-of) .ensures) in
+    let same = rw ((c .before .before .before .before .before .before .before .before .wide) .ensures) at ((c .before .before .before .before .children) .ensures) in
+    let first = rw ((c .before .before .before .before .before .before .before .before .wide) .ensures) at ((c .first-of) .ensures) in
+    let low : kindAt ((c .before .before .before .before .before .before .before .before .before .before .args) .nodes .now) ((c .before .before .before .before .before .before .before .before .before .before .args) .i) < plusKind = omega (arith, kind, (c .before .before .before .before .before .if2) .left) in
+    let second : 2 ≡ secondAt ((c .before .before .before .before .before .before .before .before .before .before .args) .nodes .now) ((c .before .before .before .before .before .before .before .before .before .before .args) .i) = omega (arith, ap length same, (c .before .before .if4) .left, children-count ((c .before .before .before .before .before .before .before .before .before .before .pre) .1) low) in
+    let part = children-part ((c .before .before .before .before .before .before .before .before .before .before .pre) .1) low ((c .before .child-base) .ensures) first second in
+    rw part (children-inside ((c .before .before .before .before .before .before .before .before .before .before .pre) .1) low ((c .before .child-base) .ensures) first second, children-nodes ((c .before .before .before .before .before .before .before .before .before .before .pre) .1) low)
 
 is-statement-returns-5 : (t : ℕ) → is-statement-lts.Need-returns-5 (
   wide-reads.Asked,
@@ -274,13 +398,21 @@ is-statement-returns-5 : (t : ℕ) → is-statement-lts.Need-returns-5 (
   children-reads.Learnt,
   are-statements-below t,
   are-statements.Post,
+  child-base-reads.Asked,
+  child-base-reads.Learnt,
+  first-of-reads.Asked,
+  first-of-reads.Learnt,
   are-arithmetic-reads.Asked,
   are-arithmetic-reads.Learnt,
 ) (is-statement-at t) is-statement.Post
 is-statement-returns-5 t c =
-    let kind = rw ((c .before .before .before .before .before .before .before .before .wide) .ensures) at ((c .before .before .before .before .before .before .before .kind-of) .ensures) in
-    let same = rw ((c .before .before .before .before .before .before .before .before .wide) .ensures) at ((c .before .before .before .before .children) .ensures) in
-    statement-arithmetic ((c .before .before .before .before .before .before .before .before .before .before .pre) .1) (omega (arith, kind, (c .before .before .before .before .before .before .if1) .left)) (omega (arith, kind, (c .before .before .before .before .before .if2) .left, (c .before .before .before .if3) .left)) (omega (arith, ap length same, (c .before .before .if4) .left)) (rw (same, (c .if5) .taken) at ((c .before .are-arithmetic) .ensures))
+    let kind = rw ((c .before .before .before .before .before .before .before .before .before .before .wide) .ensures) at ((c .before .before .before .before .before .before .before .before .before .kind-of) .ensures) in
+    let same = rw ((c .before .before .before .before .before .before .before .before .before .before .wide) .ensures) at ((c .before .before .before .before .before .before .children) .ensures) in
+    let first = rw ((c .before .before .before .before .before .before .before .before .before .before .wide) .ensures) at ((c .before .before .first-of) .ensures) in
+    let low : kindAt ((c .before .before .before .before .before .before .before .before .before .before .before .before .args) .nodes .now) ((c .before .before .before .before .before .before .before .before .before .before .before .before .args) .i) < plusKind = omega (arith, kind, (c .before .before .before .before .before .before .before .if2) .left) in
+    let second : 2 ≡ secondAt ((c .before .before .before .before .before .before .before .before .before .before .before .before .args) .nodes .now) ((c .before .before .before .before .before .before .before .before .before .before .before .before .args) .i) = omega (arith, ap length same, (c .before .before .before .before .if4) .left, children-count ((c .before .before .before .before .before .before .before .before .before .before .before .before .pre) .1) low) in
+    let part = children-part ((c .before .before .before .before .before .before .before .before .before .before .before .before .pre) .1) low ((c .before .before .before .child-base) .ensures) first second in
+    statement-arithmetic ((c .before .before .before .before .before .before .before .before .before .before .before .before .pre) .1) (omega (arith, kind, (c .before .before .before .before .before .before .before .before .if1) .left)) (omega (arith, kind, (c .before .before .before .before .before .before .before .if2) .left, (c .before .before .before .before .before .if3) .left)) (omega (arith, ap length same, (c .before .before .before .before .if4) .left)) (rw (part, (c .if5) .taken) at ((c .before .are-arithmetic) .ensures))
 
 is-statement-returns-6 : (t : ℕ) → is-statement-lts.Need-returns-6 (
   wide-reads.Asked,
@@ -291,13 +423,21 @@ is-statement-returns-6 : (t : ℕ) → is-statement-lts.Need-returns-6 (
   children-reads.Learnt,
   are-statements-below t,
   are-statements.Post,
+  child-base-reads.Asked,
+  child-base-reads.Learnt,
+  first-of-reads.Asked,
+  first-of-reads.Learnt,
   are-arithmetic-reads.Asked,
   are-arithmetic-reads.Learnt,
 ) (is-statement-at t) is-statement.Post
 is-statement-returns-6 t c =
-    let kind = rw ((c .before .before .before .before .before .before .before .before .before .wide) .ensures) at ((c .before .before .before .before .before .before .before .before .kind-of) .ensures) in
-    let same = rw ((c .before .before .before .before .before .before .before .before .before .wide) .ensures) at ((c .before .before .before .before .before .children) .ensures) in
-    statement-relation ((c .before .before .before .before .before .before .before .before .before .before .before .pre) .1) (omega (arith, kind, (c .before .before .before .before .before .before .before .if1) .left)) (omega (arith, kind, (c .before .before .before .before .before .before .if2) .left, (c .before .before .before .before .if3) .left)) (λ e. omega (arith, kind, (c .if6) .taken)) (rw (same, (c .before .if5) .left) at ((c .before .before .are-arithmetic) .ensures))
+    let kind = rw ((c .before .before .before .before .before .before .before .before .before .before .before .wide) .ensures) at ((c .before .before .before .before .before .before .before .before .before .before .kind-of) .ensures) in
+    let same = rw ((c .before .before .before .before .before .before .before .before .before .before .before .wide) .ensures) at ((c .before .before .before .before .before .before .before .children) .ensures) in
+    let first = rw ((c .before .before .before .before .before .before .before .before .before .before .before .wide) .ensures) at ((c .before .before .before .first-of) .ensures) in
+    let low : kindAt ((c .before .before .before .before .before .before .before .before .before .before .before .before .before .args) .nodes .now) ((c .before .before .before .before .before .before .before .before .before .before .before .before .before .args) .i) < plusKind = omega (arith, kind, (c .before .before .before .before .before .before .before .before .if2) .left) in
+    let second : 2 ≡ secondAt ((c .before .before .before .before .before .before .before .before .before .before .before .before .before .args) .nodes .now) ((c .before .before .before .before .before .before .before .before .before .before .before .before .before .args) .i) = omega (arith, ap length same, (c .before .before .before .before .before .if4) .left, children-count ((c .before .before .before .before .before .before .before .before .before .before .before .before .before .pre) .1) low) in
+    let part = children-part ((c .before .before .before .before .before .before .before .before .before .before .before .before .before .pre) .1) low ((c .before .before .before .before .child-base) .ensures) first second in
+    statement-relation ((c .before .before .before .before .before .before .before .before .before .before .before .before .before .pre) .1) (omega (arith, kind, (c .before .before .before .before .before .before .before .before .before .if1) .left)) (omega (arith, kind, (c .before .before .before .before .before .before .before .before .if2) .left, (c .before .before .before .before .before .before .if3) .left)) (λ e. omega (arith, kind, (c .if6) .taken)) (rw (part, (c .before .if5) .left) at ((c .before .before .are-arithmetic) .ensures))
 
 is-statement-are-statements-requires-2 : (t : ℕ) → is-statement-lts.Need-are-statements-requires-2 (
   wide-reads.Asked,
@@ -308,13 +448,17 @@ is-statement-are-statements-requires-2 : (t : ℕ) → is-statement-lts.Need-are
   children-reads.Learnt,
   are-statements-below t,
   are-statements.Post,
+  child-base-reads.Asked,
+  child-base-reads.Learnt,
+  first-of-reads.Asked,
+  first-of-reads.Learnt,
   are-arithmetic-reads.Asked,
   are-arithmetic-reads.Learnt,
 ) (is-statement-at t) is-statement.Post
 is-statement-are-statements-requires-2 t c κs =
-    let kind = rw ((c .before .before .before .before .before .before .before .before .before .wide) .ensures) at ((c .before .before .before .before .before .before .before .before .kind-of) .ensures) in
-    let same = rw ((c .before .before .before .before .before .before .before .before .before .wide) .ensures) at ((c .before .before .before .before .before .children) .ensures) in
-    rw same (omega (arith, (c .before .before .before .before .before .before .before .before .before .before .before .pre) .0, children-end ((c .before .before .before .before .before .before .before .before .before .before .before .pre) .1) (omega (arith, kind, (c .before .before .before .before .before .before .if2) .left))), children-nodes ((c .before .before .before .before .before .before .before .before .before .before .before .pre) .1) (omega (arith, kind, (c .before .before .before .before .before .before .if2) .left)))
+    let kind = rw ((c .before .before .before .before .before .before .before .before .before .before .before .wide) .ensures) at ((c .before .before .before .before .before .before .before .before .before .before .kind-of) .ensures) in
+    let same = rw ((c .before .before .before .before .before .before .before .before .before .before .before .wide) .ensures) at ((c .before .before .before .before .before .before .before .children) .ensures) in
+    rw same (omega (arith, (c .before .before .before .before .before .before .before .before .before .before .before .before .before .pre) .0, children-end ((c .before .before .before .before .before .before .before .before .before .before .before .before .before .pre) .1) (omega (arith, kind, (c .before .before .before .before .before .before .before .before .if2) .left))), children-nodes ((c .before .before .before .before .before .before .before .before .before .before .before .before .before .pre) .1) (omega (arith, kind, (c .before .before .before .before .before .before .before .before .if2) .left)))
 
 is-statement-returns-7 : (t : ℕ) → is-statement-lts.Need-returns-7 (
   wide-reads.Asked,
@@ -325,13 +469,21 @@ is-statement-returns-7 : (t : ℕ) → is-statement-lts.Need-returns-7 (
   children-reads.Learnt,
   are-statements-below t,
   are-statements.Post,
+  child-base-reads.Asked,
+  child-base-reads.Learnt,
+  first-of-reads.Asked,
+  first-of-reads.Learnt,
   are-arithmetic-reads.Asked,
   are-arithmetic-reads.Learnt,
 ) (is-statement-at t) is-statement.Post
 is-statement-returns-7 t c =
-    let kind = rw ((c .before .before .before .before .before .before .before .before .before .before .wide) .ensures) at ((c .before .before .before .before .before .before .before .before .before .kind-of) .ensures) in
-    let same = rw ((c .before .before .before .before .before .before .before .before .before .before .wide) .ensures) at ((c .before .before .before .before .before .before .children) .ensures) in
-    statement-equal ((c .before .before .before .before .before .before .before .before .before .before .before .before .pre) .1) _ (omega (arith, kind, (c .before .if6) .left)) (omega (arith, ap length same, (c .before .before .before .before .if4) .left)) (rw (same, (c .before .before .if5) .left) at ((c .before .before .before .are-arithmetic) .ensures)) (rw same at ((c .are-statements2) .ensures))
+    let kind = rw ((c .before .before .before .before .before .before .before .before .before .before .before .before .wide) .ensures) at ((c .before .before .before .before .before .before .before .before .before .before .before .kind-of) .ensures) in
+    let same = rw ((c .before .before .before .before .before .before .before .before .before .before .before .before .wide) .ensures) at ((c .before .before .before .before .before .before .before .before .children) .ensures) in
+    let first = rw ((c .before .before .before .before .before .before .before .before .before .before .before .before .wide) .ensures) at ((c .before .before .before .before .first-of) .ensures) in
+    let low : kindAt ((c .before .before .before .before .before .before .before .before .before .before .before .before .before .before .args) .nodes .now) ((c .before .before .before .before .before .before .before .before .before .before .before .before .before .before .args) .i) < plusKind = omega (arith, kind, (c .before .before .before .before .before .before .before .before .before .if2) .left) in
+    let second : 2 ≡ secondAt ((c .before .before .before .before .before .before .before .before .before .before .before .before .before .before .args) .nodes .now) ((c .before .before .before .before .before .before .before .before .before .before .before .before .before .before .args) .i) = omega (arith, ap length same, (c .before .before .before .before .before .before .if4) .left, children-count ((c .before .before .before .before .before .before .before .before .before .before .before .before .before .before .pre) .1) low) in
+    let part = children-part ((c .before .before .before .before .before .before .before .before .before .before .before .before .before .before .pre) .1) low ((c .before .before .before .before .before .child-base) .ensures) first second in
+    statement-equal ((c .before .before .before .before .before .before .before .before .before .before .before .before .before .before .pre) .1) _ (omega (arith, kind, (c .before .if6) .left)) (omega (arith, ap length same, (c .before .before .before .before .before .before .if4) .left)) (rw (part, (c .before .before .if5) .left) at ((c .before .before .before .are-arithmetic) .ensures)) (rw same at ((c .are-statements2) .ensures))
 
 pub +are-statements+is-statement-spec : {M : Type 1} → statement M
 +are-statements+is-statement-spec =
@@ -361,6 +513,10 @@ pub +are-statements+is-statement-spec : {M : Type 1} → statement M
       children-reads.Learnt,
       are-statements-below t,
       are-statements.Post,
+      child-base-reads.Asked,
+      child-base-reads.Learnt,
+      first-of-reads.Asked,
+      first-of-reads.Learnt,
       are-arithmetic-reads.Asked,
       are-arithmetic-reads.Learnt,
     )
@@ -374,6 +530,10 @@ pub +are-statements+is-statement-spec : {M : Type 1} → statement M
     (is-statement-are-statements-requires t)
     (is-statement-returns-3 t)
     (is-statement-returns-4 t)
+    (is-statement-child-base-requires t)
+    (is-statement-first-of-requires t)
+    (is-statement-add-from t)
+    (is-statement-add-are-arithmetic t)
     (is-statement-are-arithmetic-requires t)
     (is-statement-returns-5 t)
     (is-statement-returns-6 t)
