@@ -89,6 +89,7 @@ fn long_name(number: usize) -> String {
 pub fn all() -> Vec<Text> {
     vec![
         text("an empty file", String::new()),
+        text("one assumption", "(assume a (>= x 1))\n".into()),
         text("document 01's example, 3 commands", example()),
         text("small steps, 1 KB", small_steps(1_024)),
         text("small steps, 32 KB", small_steps(32_768)),
@@ -228,6 +229,7 @@ fn long_pol_line() -> String {
 /// Texts of pol lines.
 pub fn pol_texts() -> Vec<Text> {
     vec![
+        text("one pol line", "(pol p x)\n".into()),
         text("2 assumptions, 1 pol line", ODD_POL.into()),
         text("64 pol lines of five summands", short_pol_lines()),
         text("64 pol lines of sixty literals", wide_pol_lines()),

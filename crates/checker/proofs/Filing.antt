@@ -1,17 +1,16 @@
 -- What the reader made of a text is a file: at once where it has no pol line, else in the larger table in which their clauses stand.
 use mathlib.Core.Path.{_≡_, refl, sym, ap, ap₂, _∙_}
 use mathlib.Core.List.{List, [], _∷_, _++_}
-use Prim.Native.Nat.{ℕ, zero, suc, _+_, _*_, _≤_, _<_}
+use Prim.Native.Nat.{ℕ, zero, suc, _+_, _≤_, _<_}
 use native.Mathlib.Omega.{arith}
 use lib.IntN.{ℤ}
 use lib.ListN.{length}
 use Rattle.calculus.specs.Limits.{maxNodes, polLines}
 use Rattle.calculus.specs.Marks.{run}
-use Rattle.calculus.specs.Terms.{Command, sameName}
+use Rattle.calculus.specs.Terms.{Command}
 use Rattle.nodes.specs.Nodes.{capacity, maxCapacity, Table, Moved}
 use Rattle.nodes.proofs.Tables.{children-length, moved-kids, moved-map, moved-table}
 use Rattle.terms.specs.Names.{Names}
-use Rattle.terms.specs.Spans.{stringAt}
 use Rattle.reader.specs.Commands.{wordAt, clauseWord, premisesWord, argumentsWord, partAt, commandOf, commandsOf, CommandIn, Commands}
 use Rattle.reader.proofs.Words.{none-pol}
 use Rattle.sums.specs.Places.{Rooms}
@@ -29,7 +28,6 @@ module _ {s t w : List ℕ} {n m c p : ℕ} (T : Taken s t w n m c p) (none : p 
     firsts = T .firsts;
     named = T .named;
     commands = T .commands;
-    distinct = T .distinct;
     indexed = T .indexed;
     clauses = λ j h e at C. absurd (none-pol s t w n (sym (T .pols) ∙ none) j h e);
   }
@@ -112,10 +110,6 @@ module _ {s t u w : List ℕ} {n m c p : ℕ} (T : Taken s t w n m c p) (M : Mov
 
   -- what it leaves
   module _ {v x numbers : List ℕ} (R : LinesRun s u v w x numbers n) where
-    id-kept : (j : ℕ) → j < n → stringAt s x j ≡ stringAt s w j
-    unfolding stringAt
-    id-kept j h = rw (R .ids (2 * j) (omega arith), R .ids (2 * j + 1) (omega arith)) refl
-
     pub file-run : File s v x n
     file-run = record {
       nodes = R .nodes;
@@ -124,7 +118,6 @@ module _ {s t u w : List ℕ} {n m c p : ℕ} (T : Taken s t w n m c p) (M : Mov
       firsts = R .firsts;
       named = R .named;
       commands = R .commands;
-      distinct = λ i j a b. ap₂ sameName (id-kept i (omega arith)) (id-kept j b) ∙ T .distinct i j a b;
       indexed = R .indexed;
       clauses = λ j h e. R .lines j h e .clause;
     }

@@ -1,5 +1,5 @@
 pub mod Answering
-pub mod Distinct
+pub mod Taking
 pub mod Filing
 pub mod Lining
 pub mod Marking

@@ -23,6 +23,7 @@ use Rattle.reader.specs.Commands.{commandOf, commandsOf, wordAt, kindWord, clau
 use Rattle.reader.proofs.Words.{command-pol, command-other, command-id}
 use Rattle.lines.specs.Running.{ClausesAre}
 use Rattle.links.specs.Steps.{clauses}
+use Rattle.ending.proofs.Naming.{other-name}
 use Rattle.terms.specs.Spans.{stringAt}
 use Rattle.checker.specs.Runs.{File, commandLines, commandLine, HoldBy, Marked, allMarked}
 
@@ -131,7 +132,7 @@ module _ {s t w : List ℕ} {n : ℕ} (f : File s t w n) where
       others i g =
           ap (λ (l : Line). sameName (l .id) (stringAt s w j)) (line-in s t w k i (omega arith))
           ∙ ap (λ (d : List ℕ). sameName d (stringAt s w j)) (id-is i)
-          ∙ f .distinct i j g (omega arith)
+          ∙ other-name (stringAt s w i) (stringAt s w j) (f .indexed .apart j (omega arith) i g)
 
   -- ---- clauses
   -- they are the table's, from above to below: that of a pol line by those above it

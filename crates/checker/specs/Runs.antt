@@ -8,7 +8,7 @@ use Rattle.calculus.specs.Grammar.{got}
 use Rattle.calculus.specs.Limits.{polLines, maxPols}
 use Rattle.calculus.specs.Marks.{Line, lineOf, numberOf, plainOf, lineAt, allHold, contradiction, refutedBy, run}
 use Rattle.calculus.specs.Pol.{polResult, givenClause, givenAnswer, pushedIds}
-use Rattle.calculus.specs.Terms.{Term, PolWord, sameName}
+use Rattle.calculus.specs.Terms.{Term, PolWord}
 use Rattle.calculus.specs.Words.{Res, ok, bad}
 use Rattle.heads.specs.PolHeads.{polWordOf}
 use Rattle.heads.specs.declared.PolHead.{PolHead}
@@ -20,14 +20,13 @@ use Rattle.reader.specs.Commands.{idIndex, wordAt, kindWord, clauseWord, partAt
 use Rattle.terms.specs.Index.{Indexed}
 use Rattle.terms.specs.Spans.{maxJoined, stringAt}
 
--- what the reader publishes of n commands of the text s in the tables t and w, p pol lines among them, with m nodes and c child words in use; and no two commands have one id
+-- what the reader publishes of n commands of the text s in the tables t and w, p pol lines among them, with m nodes and c child words in use
 pub record Taken (s t w : List ℕ) (n m c p : ℕ) : Type 0 where
   pub text : length s ≤ maxJoined
   pub table : Table t m c
   pub firsts : Firsts t m
   pub named : Named s t m
   pub commands : Commands s t w n m c
-  pub distinct : (i j : ℕ) → i < j → j < n → sameName (stringAt s w i) (stringAt s w j) ≡ false
   pub indexed : Indexed s w idIndex n
   pub pols : p ≡ polLines (commandsOf s t w n)
   pub few : p ≤ maxPols
@@ -44,7 +43,6 @@ pub record File (s t w : List ℕ) (n : ℕ) : Type 0 where
   pub firsts : Firsts t nodes
   pub named : Named s t nodes
   pub commands : Commands s t w n nodes children
-  pub distinct : (i j : ℕ) → i < j → j < n → sameName (stringAt s w i) (stringAt s w j) ≡ false
   pub indexed : Indexed s w idIndex n
   pub clauses : (j : ℕ) → j < n → wordAt w j kindWord ≡ polKind → (at : List ℕ → List Term) → ClausesAre at s t w j → map (decode s t) (partAt t w j clauseWord) ≡ givenClause (polResult at (polWordsOf s w j))
 

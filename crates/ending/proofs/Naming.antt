@@ -62,7 +62,7 @@ one-variable : (d : ℕ → Term) (k l : ℕ) (x : List ℕ) → d (variableOf k
 unfolding litBefore spelling
 one-variable d k l x e f h = rw (e, f, before-self x, is-true (sameName x x) (sameName-refl x)) (plain-first k l h)
 
-other-name : (x y : List ℕ) → (x ≡ y → ⊥) → sameName x y ≡ false
+pub other-name : (x y : List ℕ) → (x ≡ y → ⊥) → sameName x y ≡ false
 other-name x y f = go (sameName x y) (sameName-eq x y)
   where
     go : (b : Bool) → (T b → x ≡ y) → b ≡ false

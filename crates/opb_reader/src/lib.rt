@@ -98,7 +98,7 @@ fn resulting(equal: bool) -> usize
     if equal { 2 } else { 1 }
 }
 
-// Writes the assumptions of a constraint: of `=` two, the second with all signs turned. They are written from one place, so that the compiler makes no call of it.
+// Writes the assumptions of a constraint: of `=` two, the second with all signs turned. Both are written from one place, so that the compiler makes no call of `put_assumption`.
 fn put_constraint(
     string: &[u8],
     ids: usize,

@@ -1,6 +1,6 @@
 -- What the reader of both texts answers decides: a file's report, without pol lines or with them, or a refusal's line.
 use native.Mathlib.Omega.{arith}
-use Rattle.checker.proofs.Distinct.{taken-both}
+use Rattle.checker.proofs.Taking.{taken-both}
 use Rattle.checker.proofs.Filing.{file-plain, no-pols}
 use Rattle.checker.proofs.Joining.{both-long}
 use Rattle.checker.proofs.Reporting.{both-report, both-refusal, both-never-small}

@@ -1,6 +1,6 @@
 -- What the reader answers decides: a file's report, without pol lines or with them, a refusal's line; and the tables are not too small.
 use native.Mathlib.Omega.{arith}
-use Rattle.checker.proofs.Distinct.{taken-of}
+use Rattle.checker.proofs.Taking.{taken-of}
 use Rattle.checker.proofs.Filing.{file-plain, no-pols}
 use Rattle.checker.proofs.Reporting.{report-all, report-refused, report-small}
 use borrow.Author.Needs.{needs}
