@@ -4,6 +4,7 @@
 use crate::report::Line;
 use crate::rules::Rule;
 use crate::solutions::{self, Constraint};
+use crate::sums::{Reach, Source, Sum};
 use oracle::ast::{Constant, Operator};
 use oracle::{Account, Term};
 use std::collections::HashMap;
@@ -34,8 +35,9 @@ enum Statement {
 pub enum Outcome {
     /// Too many variables or numbers beyond an i128.
     Untried,
-    /// Each marked line is satisfied by each of so many assignments that satisfy the assumptions.
-    Fine { models: u64, steps: u64, assumptions: u64 },
+    /// Each marked line is satisfied by each of so many assignments that satisfy the assumptions, and `refuted` is what the marked lines that are
+    /// sums over names show.
+    Fine { models: u64, steps: u64, assumptions: u64, reach: Reach },
     /// A mark is wrong.
     Wrong(String),
 }
@@ -227,7 +229,7 @@ pub fn tried(opb: &[u8], account: &Account, lines: &[Line], refuted: bool) -> Ou
     }
     let given: usize = constraints.iter().map(Constraint::assumptions).sum();
     let mut claim = Claim { constraints, assumptions: Vec::new(), marked: Vec::new(), refuted };
-    let (mut steps, mut assumptions) = (0, 0);
+    let (mut steps, mut assumptions, mut reach) = (0, 0, Reach::default());
     for (place, (command, line)) in account.commands.iter().zip(lines).enumerate() {
         if line.rule == Rule::Assume && place >= given {
             claim.assumptions.extend(names.clause(&command.clause));
@@ -235,7 +237,14 @@ pub fn tried(opb: &[u8], account: &Account, lines: &[Line], refuted: bool) -> Ou
         if line.holds {
             claim.marked.push(Marked { place, statement: names.clause(&command.clause) });
             *if line.rule == Rule::Assume { &mut assumptions } else { &mut steps } += 1;
+            if let Some(sum) = Sum::of_clause(&command.clause) {
+                let source = if place < given { Source::Constraint } else { Source::Line(line.rule) };
+                reach.add(place, source, &sum);
+            }
         }
+    }
+    if let Some(wrong) = reach.wrong(refuted) {
+        return Outcome::Wrong(wrong);
     }
     let variables = names.numbers.len();
     if variables > MOST_VARIABLES || (lines.len() << variables) > MOST_WORK {
@@ -244,7 +253,7 @@ pub fn tried(opb: &[u8], account: &Account, lines: &[Line], refuted: bool) -> Ou
     match claim.models(&names) {
         Err(TooLarge) => Outcome::Untried,
         Ok(Err(wrong)) => Outcome::Wrong(wrong),
-        Ok(Ok(models)) => Outcome::Fine { models, steps, assumptions },
+        Ok(Ok(models)) => Outcome::Fine { models, steps, assumptions, reach },
     }
 }
 
@@ -278,11 +287,11 @@ mod tests {
             ("(>= (+ (* 2 x) y) 2)", "(>= (+ x y) 1)", 2),
             ("(= (- x) 0)", "(< x 1)", 1),
             ("(and (> x y) (<= x 1))", "(= (= x 1) (= y 0))", 1),
-            ("(>= 0 1)", "(>= 0 7)", 0),
+            ("(> 0 1)", "(> 0 7)", 0),
             ("(= (- 3 x 1 y) 0)", "(>= (* x y) 1)", 1),
         ] {
             let outcome = all_marked(&step(assumption, conclusion), false);
-            assert!(matches!(outcome, Outcome::Fine { models, steps: 1, assumptions: 1 } if models == due), "{assumption}");
+            assert!(matches!(outcome, Outcome::Fine { models, steps: 1, assumptions: 1, .. } if models == due), "{assumption}");
         }
     }
 
@@ -304,8 +313,23 @@ mod tests {
 
     #[test]
     fn refuted_asks_for_no_assignment() {
-        assert!(matches!(all_marked("(assume a (>= (+ x y) 2))", true), Outcome::Wrong(_)));
-        assert!(matches!(all_marked("(assume a (>= (+ x y) 3))", true), Outcome::Fine { models: 0, .. }));
+        assert!(matches!(all_marked("(assume a (>= (+ (* 1 x) (* 1 y)) 2))", true), Outcome::Wrong(_)));
+        assert!(matches!(all_marked("(assume a (>= (+ (* 1 x) (* 1 y)) 3))", true), Outcome::Fine { models: 0, .. }));
+        assert!(matches!(all_marked("(assume a (>= 0 1))(assume b (>= x 0))", true), Outcome::Fine { models: 0, .. }));
+    }
+
+    #[test]
+    fn refuted_asks_for_a_sum_that_no_assignment_satisfies() {
+        for (text, refuted) in [
+            ("(assume a (>= (+ (* 1 x) (* 1 y)) 3))", false),
+            ("(assume a (>= (+ (* -3 x) (* -2 (- 1 x))) -1))", false),
+            ("(assume a (>= (+ x y) 3))", true),
+            ("(assume a (>= (* 1 (+ x y)) 5))", true),
+            ("(assume a (>= (* 1 x) 1))(assume b (>= (* 1 (- 1 x)) 1))", true),
+        ] {
+            assert!(matches!(all_marked(text, refuted), Outcome::Wrong(_)), "{text}");
+            assert!(matches!(all_marked(text, !refuted), Outcome::Fine { models: 0, .. }), "{text}");
+        }
     }
 
     #[test]
@@ -314,13 +338,15 @@ mod tests {
             let text = format!("(step t (cl {conclusion}) :rule cp_part :premises (c1) :args (0))");
             all_marked_behind(opb, &text, false)
         };
-        assert!(matches!(follows("2 x1 -1 ~x2 >= 1 ;", "(>= x1 1)"), Outcome::Fine { models: 2, steps: 1, assumptions: 1 }));
-        assert!(matches!(follows("1 x1 1 x2 = 2 ;", "(>= x2 1)"), Outcome::Fine { models: 1, steps: 1, assumptions: 2 }));
+        assert!(matches!(follows("2 x1 -1 ~x2 >= 1 ;", "(>= x1 1)"), Outcome::Fine { models: 2, steps: 1, assumptions: 1, .. }));
+        assert!(matches!(follows("1 x1 1 x2 = 2 ;", "(>= x2 1)"), Outcome::Fine { models: 1, steps: 1, assumptions: 2, .. }));
         assert!(matches!(follows("1 x1 1 x2 >= 1 ;", "(>= x2 1)"), Outcome::Wrong(_)));
         assert!(matches!(follows("1 ~x2 >= 1 ;", "(>= x2 1)"), Outcome::Wrong(_)));
         assert!(matches!(all_marked_behind("1 x1 >= 2 ;", "", true), Outcome::Fine { models: 0, .. }));
-        assert!(matches!(all_marked_behind("1 x1 >= 1 ;", "(assume a (>= 0 x1))", true), Outcome::Fine { models: 0, .. }));
+        assert!(matches!(all_marked_behind("1 x1 >= 1 ;", "(assume a (>= 0 x1))", false), Outcome::Fine { models: 0, .. }));
+        assert!(matches!(all_marked_behind("1 x1 >= 1 ;", "(assume a (>= 0 1))", true), Outcome::Fine { models: 0, .. }));
         assert!(matches!(all_marked_behind("1 x1 >= 1 ;", "", true), Outcome::Wrong(_)));
+        assert!(matches!(all_marked_behind("1 x1 = -1 ;", "", false), Outcome::Wrong(_)));
     }
 
     #[test]

@@ -4,6 +4,7 @@ use crate::brute::Outcome;
 use crate::pair::Pair;
 use crate::report::{Line, Report};
 use crate::rules::{Rule, ANSWERING, ANSWERS};
+use crate::sums::{Reach, Source, SHAPES};
 use crate::texts;
 use std::fmt::Write;
 
@@ -11,6 +12,10 @@ use std::fmt::Write;
 pub const LONG: u64 = 50_000;
 
 const RULES_AND_ASSUME: usize = ANSWERING.len() + 1;
+
+/// What can derive the first line of a file that no assignment satisfies. Of the others' lines some assignment satisfies those without premises, and those
+/// with one where one satisfies that.
+const REFUTING: [Rule; 5] = [Rule::Assume, Rule::Addition, Rule::Transfer, Rule::Part, Rule::Pol];
 
 /// The refusals of a proof text, and of an OPB text.
 const REFUSALS: [usize; 8] = [1, 2, 3, 4, 5, 6, 7, 8];
@@ -62,6 +67,76 @@ struct Pairs {
     tried_refuted: u64,
 }
 
+/// What was counted of texts that were tried, by the marked lines that are sums over names.
+#[derive(Default)]
+struct Sums {
+    /// Refuted texts in which a line with each shape is satisfied by no assignment.
+    refuted: [u64; SHAPES.len()],
+    /// Refuted texts by their first such line.
+    by_constraint: u64,
+    by_line: [u64; RULES_AND_ASSUME],
+    /// Lines of the other texts that some assignment satisfies, and of each shape those with a constant that is their greatest value.
+    satisfied: u64,
+    equal: [u64; SHAPES.len()],
+}
+
+impl Sums {
+    fn add(&mut self, reach: &Reach, refuted: bool) {
+        if !refuted {
+            self.satisfied += reach.satisfied;
+            self.equal.iter_mut().zip(reach.equal).for_each(|(count, more)| *count += more);
+            return;
+        }
+        self.refuted.iter_mut().zip(reach.below).for_each(|(count, below)| *count += u64::from(below));
+        match reach.first {
+            Some((_, Source::Constraint)) => self.by_constraint += 1,
+            Some((_, Source::Line(rule))) => self.by_line[rule as usize] += 1,
+            None => (),
+        }
+    }
+
+    /// Shapes that never came, and rules that derived the first line that no assignment satisfies and cannot, or can and never did.
+    fn missing(&self) -> Vec<String> {
+        let mut missing = Vec::new();
+        for (place, shape) in SHAPES.iter().enumerate() {
+            if self.refuted[place] == 0 {
+                missing.push(format!("no text is refuted by a sum with {shape}"));
+            }
+            if self.equal[place] == 0 {
+                missing.push(format!("no sum with {shape} has its greatest value as constant"));
+            }
+        }
+        for rule in ANSWERING.into_iter().chain([Rule::Assume]) {
+            match (REFUTING.contains(&rule), self.by_line[rule as usize]) {
+                (true, 0) => missing.push(format!("no text is refuted first by {}", rule.name())),
+                (false, 1..) => missing.push(format!("{} refuted first, which it cannot", rule.name())),
+                _ => (),
+            }
+        }
+        if self.by_constraint == 0 {
+            missing.push("no text is refuted first by a constraint".to_owned());
+        }
+        missing
+    }
+
+    fn shown(&self, text: &mut String) {
+        let shapes = |counts: &[u64]| {
+            let shown: Vec<String> = SHAPES.iter().zip(counts).map(|(shape, count)| format!("{shape} {count}")).collect();
+            shown.join(", ")
+        };
+        let _ = writeln!(text, "refuted, tried, by sums with {}", shapes(&self.refuted));
+        let lines: Vec<String> =
+            REFUTING.iter().map(|rule| format!("{} {}", rule.name(), self.by_line[*rule as usize])).collect();
+        let _ = writeln!(text, "  first by a constraint {}, {}", self.by_constraint, lines.join(", "));
+        let _ = writeln!(
+            text,
+            "not refuted: {} marked lines are sums over names, each with an assignment that satisfies it",
+            self.satisfied
+        );
+        let _ = writeln!(text, "  with their greatest value as constant {}", shapes(&self.equal));
+    }
+}
+
 /// Counts of answers, from 0 to 54.
 struct Answers([u64; ANSWERS]);
 
@@ -92,6 +167,7 @@ pub struct Count {
     tried_steps_with_model: u64,
     tried_texts: u64,
     tried_refuted: u64,
+    sums: Sums,
 }
 
 impl Count {
@@ -139,7 +215,8 @@ impl Count {
     /// Count what trying all assignments gave.
     pub fn outcome(&mut self, outcome: &Outcome, refuted: bool, pair: &Pair) {
         match outcome {
-            Outcome::Fine { models, steps, assumptions } => {
+            Outcome::Fine { models, steps, assumptions, reach } => {
+                self.sums.add(reach, refuted);
                 if pair.opb.is_some() {
                     let lines = steps + assumptions;
                     self.pairs.tried += lines;
@@ -181,6 +258,7 @@ impl Count {
         missing.extend(self.pairs.opb.missing(&OPB_REFUSALS, "OPB texts"));
         missing.extend(self.pairs.behind.missing(&REFUSALS[1..], "texts behind an OPB text"));
         missing.extend(self.missing_marks());
+        missing.extend(self.sums.missing());
         missing
     }
 
@@ -222,6 +300,7 @@ impl Count {
         let _ = writeln!(text, "lines with holds=yes that were tried: {}, {} of them steps", self.tried, self.tried_steps);
         let (lines, steps) = (self.tried_with_model, self.tried_steps_with_model);
         let _ = writeln!(text, "and with an assignment that satisfies the assumptions: {lines}, {steps} of them steps");
+        self.sums.shown(&mut text);
         text
     }
 
@@ -265,11 +344,12 @@ impl Count {
 
 #[cfg(test)]
 mod tests {
-    use super::{Count, OPB_REFUSALS, REFUSALS};
+    use super::{Count, OPB_REFUSALS, REFUSALS, REFUTING};
     use crate::brute::Outcome;
     use crate::pair::Pair;
     use crate::report::{Line, Report};
-    use crate::rules::{ANSWERING, RULES};
+    use crate::rules::{Rule, ANSWERING, RULES};
+    use crate::sums::{Reach, Source, SHAPES};
 
     /// A count that has everything once.
     fn all_reached() -> Count {
@@ -286,8 +366,13 @@ mod tests {
             let accepted = accepted.map(|(plain, holds)| Line { rule, answer: 0, plain, holds });
             count.report(&Report::Read(refused.chain(accepted).collect(), true), &alone);
         }
-        count.outcome(&Outcome::Fine { models: 0, steps: 1, assumptions: 1 }, true, &behind);
-        count.outcome(&Outcome::Fine { models: 1, steps: 1, assumptions: 1 }, false, &behind);
+        let fine = |models: u64, reach: Reach| Outcome::Fine { models, steps: 1, assumptions: 1, reach };
+        let sources = REFUTING.iter().map(|rule| Source::Line(*rule)).chain([Source::Constraint]);
+        for source in sources {
+            let reach = Reach { first: Some((0, source)), below: [true; SHAPES.len()], ..Reach::default() };
+            count.outcome(&fine(0, reach), true, &behind);
+        }
+        count.outcome(&fine(1, Reach { equal: [1; SHAPES.len()], ..Reach::default() }), false, &behind);
         count
     }
 
@@ -304,6 +389,14 @@ mod tests {
         let mut count = all_reached();
         count.report(&Report::Refused(51), &Pair::behind(Vec::new(), Vec::new()));
         assert_eq!(count.missing(), ["texts behind an OPB text: refusal 51 came, which the documents do not have"]);
+    }
+
+    #[test]
+    fn a_first_line_that_cannot_be_one_is_noticed() {
+        let mut count = all_reached();
+        let reach = Reach { first: Some((0, Source::Line(Rule::Division))), ..Reach::default() };
+        count.outcome(&Outcome::Fine { models: 0, steps: 1, assumptions: 1, reach }, true, &Pair::alone(Vec::new()));
+        assert_eq!(count.missing(), ["cp_division refuted first, which it cannot"]);
     }
 
     #[test]

@@ -59,9 +59,9 @@ impl Maker<'_> {
         }
     }
 
-    /// `(>= 0 k)`, k on both sides of 1, and terms like it.
+    /// `(>= 0 k)` and `(>= (* 1 x) k)`, k on both sides of what refutes, and terms like them that section 2 does not read.
     fn nearly_false(&mut self) -> Term {
-        let name = self.name();
+        let (name, other) = (self.name(), self.name());
         let choices = [
             at_least(Number(0), 1),
             at_least(Number(0), 7),
@@ -74,7 +74,21 @@ impl Maker<'_> {
             Apply(Ge, vec![Number(0), Number(1), Number(1)]),
             single(And, at_least(Number(0), 1)),
             at_least(Number(1), 2),
-            at_least(times(0, name), 1),
+            at_least(pair(Add, Number(0), Number(0)), 1),
+            at_least(times(0, name.clone()), 1),
+            at_least(times(1, name.clone()), 1),
+            at_least(times(1, name.clone()), 2),
+            at_least(times(-1, name.clone()), 0),
+            at_least(times(-1, name.clone()), 1),
+            at_least(name.clone(), 2),
+            at_least(single(Add, name.clone()), 2),
+            at_least(pair(Mul, name.clone(), Number(1)), 2),
+            at_least(times(1, pair(Add, name.clone(), other.clone())), 5),
+            at_least(times(0, pair(Add, name.clone(), other)), 1),
+            pair(Gt, times(1, name.clone()), Number(1)),
+            pair(Eq, times(1, name.clone()), Number(2)),
+            pair(Le, Number(2), times(1, name.clone())),
+            single(And, at_least(times(1, name), 2)),
         ];
         self.random.one(&choices).clone()
     }

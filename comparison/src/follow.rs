@@ -73,6 +73,16 @@ pub fn reduced(sum: &Sum) -> (Sum, i64) {
     (result, slack)
 }
 
+/// The greatest value of a sum: for each variable the larger of its two totals.
+pub fn greatest(sum: &Sum) -> i64 {
+    let total = |variable: &Term, negated: bool| {
+        sum.iter().find(|(own, _)| own.variable == *variable && own.negated == negated).map_or(0, |(_, total)| *total)
+    };
+    let has_plain = |variable: &Term| sum.iter().any(|(own, _)| own.variable == *variable && !own.negated);
+    let counted = sum.iter().filter(|(literal, _)| !literal.negated || !has_plain(&literal.variable));
+    counted.map(|(literal, _)| total(&literal.variable, false).max(total(&literal.variable, true))).sum()
+}
+
 /// Division as the Rust has it: truncated toward zero.
 pub fn divided(number: i64, divisor: i64) -> i64 {
     (number + divisor - 1) / divisor

@@ -12,7 +12,7 @@ const RELATIONS: [&str; 5] = [">=", ">", "<=", "<", "="];
 const PRODUCT: &str = "(* 99999999 99999999)";
 
 /// Kinds of texts at limits.
-const KINDS: usize = 10;
+const KINDS: usize = 11;
 
 /// One text of each kind at each side of its limit, with each choice that the kind has.
 pub fn all() -> Vec<Vec<u8>> {
@@ -36,7 +36,7 @@ pub fn any(random: &mut Random) -> Vec<u8> {
 }
 
 fn choices(kind: usize) -> usize {
-    [3, 8, 6, 4, 4, 10, PLACES.len() * 5, 5 * 6, 5 * 4, 12][kind]
+    [3, 8, 6, 4, 4, 10, PLACES.len() * 5, 5 * 6, 5 * 4, 12, 9][kind]
 }
 
 fn text(kind: usize, beyond: i64, choice: usize) -> Vec<u8> {
@@ -51,7 +51,8 @@ fn text(kind: usize, beyond: i64, choice: usize) -> Vec<u8> {
         6 => summands(at(SUMMANDS), choice / 5, choice % 5),
         7 => leaves(at(SUMMANDS), RELATIONS[choice / 6], choice % 6),
         8 => normalized_summands(at(SUMMANDS), RELATIONS[choice / 4], choice % 4),
-        _ => large_numbers(at(SUMMANDS), choice),
+        9 => large_numbers(at(SUMMANDS), choice),
+        _ => greatest_value(at(SUMMANDS), choice),
     }
     .into_bytes()
 }
@@ -190,6 +191,23 @@ fn summands(count: usize, place: usize, choice: usize) -> String {
         1 => step(rule, argument, "(>= 0 0)", &long, &short),
         _ => step(rule, argument, &short, "(>= 0 0)", &long),
     }
+}
+
+/// An assumption of so many summands at its greatest value or above it; sums of large numbers on both sides of every constant.
+fn greatest_value(count: usize, choice: usize) -> String {
+    let both = |summands: [&str; 2]| format!("(+{})", (0..count).map(|at| format!(" {}", summands[at % 2])).collect::<String>());
+    let (sum, constant) = match choice {
+        0 => (repeated(count, "(* 0 x)"), 1),
+        1 => (repeated(count, "(* 1 x)"), count as i64),
+        2 => (repeated(count, "(* 1 x)"), count as i64 + 1),
+        3 => (repeated(count, "(* -1 (- 1 x))"), 1),
+        4 => (numbered(count, 1), count as i64 + 1),
+        5 => (repeated(count, "(* 99999999 x)"), 99_999_999),
+        6 => (repeated(count, "(* -99999999 x)"), -99_999_999),
+        7 => (both(["(* -99999999 x)", "(* -99999999 (- 1 x))"]), -99_999_999),
+        _ => (both(["(* 99999999 x)", "(* -99999999 x)"]), 1),
+    };
+    format!("(assume a (>= {sum} {constant}))\n")
 }
 
 // ------------------------------------------------------------ normalizations

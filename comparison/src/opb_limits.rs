@@ -34,7 +34,7 @@ pub fn any(random: &mut Random) -> Pair {
 }
 
 fn choices(kind: usize) -> usize {
-    [6, 5, 11, 7, 12, 4, 9, 8][kind]
+    [6, 5, 11, 7, 12, 4, 9, 12][kind]
 }
 
 fn pair(kind: usize, beyond: i64, choice: usize) -> Pair {
@@ -165,6 +165,14 @@ fn number(beyond: i64, choice: usize) -> (String, String) {
 /// Constraints of so many summands that are cited.
 fn summands(count: usize, choice: usize) -> (String, String) {
     let sum = "1 x1 ".repeat(count);
+    // at the greatest value and above it, of each half
+    match choice {
+        8 => return (format!("{sum}>= {count} ;"), String::new()),
+        9 => return (format!("{sum}>= {} ;", count + 1), String::new()),
+        10 => return (format!("{sum}= 0 ;"), String::new()),
+        11 => return (format!("{sum}= -1 ;"), String::new()),
+        _ => (),
+    }
     let (rule, premises, argument, result) = [
         ("cp_addition", "c1 c2", "", count),
         ("cp_addition", "c2 c1", "", count),

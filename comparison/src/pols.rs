@@ -312,6 +312,20 @@ impl Maker<'_> {
         }
     }
 
+    /// The sum of two lines above by a pol line, now and then rounded.
+    pub fn pol_sum(&mut self, left: usize, right: usize) -> usize {
+        let mut line = Line::default();
+        for number in [left, right] {
+            line.words.push(PolWord::Line(number));
+            line.stack.push(self.only(number).and_then(follow::inequality).unwrap_or_default());
+        }
+        line.add();
+        if self.random.chance(15) {
+            self.round(&mut line);
+        }
+        self.finish(line)
+    }
+
     /// Push `l >= 1`: an assumption, or two over another variable that are added and divided.
     fn push_derived(&mut self, line: &mut Line, literal: Term) {
         let push = |maker: &mut Self, line: &mut Line, term: Term| {

@@ -192,6 +192,11 @@ impl Maker<'_> {
     /// An assumed relation, its normalization, and the normalized form; the number of the last.
     pub fn carried_over(&mut self) -> usize {
         let relation = self.relation();
+        self.carried_over_of(relation)
+    }
+
+    /// The same of this relation.
+    pub fn carried_over_of(&mut self, relation: Term) -> usize {
         let assumed = self.assume(relation.clone());
         let equation = self.normalization(&relation).unwrap_or(relation);
         let normalized = equation.two(Eq).map_or(Number(0), |(_, right)| right.clone());

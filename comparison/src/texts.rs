@@ -12,9 +12,10 @@ use crate::pols;
 use crate::random::Random;
 
 /// Kinds of texts and of pairs, for counting.
-pub const KINDS: [&str; 16] = [
+pub const KINDS: [&str; 17] = [
     "proofs", "chains", "refutations", "faults", "statements", "long proofs", "damaged", "raw bytes", "limits", "models",
     "damaged OPB texts", "damaged proofs behind them", "raw OPB texts", "limits of both", "pol lines", "limits of pol lines",
+    "greatest values",
 ];
 
 /// One index in so many has a pair.
@@ -36,6 +37,7 @@ const RAW_OPB: usize = 12;
 pub const OPB_LIMIT: usize = 13;
 const POL: usize = 14;
 pub const POL_LIMIT: usize = 15;
+const GREATEST: usize = 16;
 
 /// What an index has, and its kind: a text, or a pair of texts.
 pub fn text(seed: u64, index: u64) -> (usize, Pair) {
@@ -44,8 +46,9 @@ pub fn text(seed: u64, index: u64) -> (usize, Pair) {
         return pair(&mut random);
     }
     let kind = match random.below(1000) {
-        0..=269 => PROOF,
-        270..=419 => CHAIN,
+        0..=249 => PROOF,
+        250..=369 => CHAIN,
+        370..=419 => GREATEST,
         420..=469 => REFUTATION,
         470..=539 => FAULTS,
         540..=599 => STATEMENTS,
@@ -89,7 +92,8 @@ fn pair(random: &mut Random) -> (usize, Pair) {
 
 /// An OPB text with a proof behind it.
 fn model(random: &mut Random) -> Pair {
-    let kind = *random.one(&[PROOF, PROOF, PROOF, CHAIN, REFUTATION, REFUTATION, FAULTS, STATEMENTS, POL, POL, POL]);
+    let kind =
+        *random.one(&[PROOF, PROOF, PROOF, CHAIN, REFUTATION, REFUTATION, FAULTS, STATEMENTS, POL, POL, POL, GREATEST, GREATEST]);
     let count = *random.one(&[0, 1, 1, 2, 2, 3, 4, 12]);
     let kind = if random.chance(1) { LONG } else { kind };
     let mut maker = Maker::with_names(random, &models::POOL);
@@ -97,6 +101,8 @@ fn model(random: &mut Random) -> Pair {
         maker.refutation();
     } else if kind == POL && maker.random.chance(30) {
         maker.pol_refutation();
+    } else if kind == GREATEST {
+        maker.greatest_values();
     } else {
         maker.model(count);
         fill(kind, &mut maker);
@@ -110,7 +116,7 @@ fn of_kind(kind: usize, random: &mut Random) -> Vec<u8> {
         LIMIT => return maybe_damaged(limits::any(random), random),
         POL_LIMIT => return maybe_damaged(pol_limits::any(random), random),
         DAMAGED => {
-            let inner = *random.one(&[PROOF, PROOF, CHAIN, REFUTATION, FAULTS, STATEMENTS, POL, POL, POL]);
+            let inner = *random.one(&[PROOF, PROOF, CHAIN, REFUTATION, FAULTS, STATEMENTS, POL, POL, POL, GREATEST]);
             let whole = of_kind(inner, random);
             return damage::damaged(&whole, random);
         }
@@ -138,6 +144,7 @@ fn fill(kind: usize, maker: &mut Maker) {
             maker.faults(steps);
         }
         STATEMENTS => maker.statements(),
+        GREATEST => maker.greatest_values(),
         POL if maker.random.chance(12) => maker.pol_refutation(),
         POL => {
             let lines = *maker.random.one(&[1, 1, 2, 2, 3, 4, 6, 12]);

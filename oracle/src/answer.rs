@@ -9,7 +9,7 @@
 use crate::ast::{Operator, Pool, Rc, Term, build_term, match_term};
 use crate::checker::error::CheckerError;
 use crate::checker::rules::cutting_planes as original;
-use crate::checker::rules::{self, Premise, RuleArgs, RuleResult};
+use crate::checker::rules::{self, Inequality, Premise, RuleArgs, RuleResult};
 use crate::reader::{Command, Rule};
 
 /// The answer of an accepted command.
@@ -100,6 +100,11 @@ fn inequalities(pool: &mut Pool, step: Step, rule: rules::Rule) -> u8 {
     let conclusion = with_marked_sums(pool, step.conclusion, &mark);
     let marked = Step { premises: &premises, conclusion: &conclusion, ..step };
     number_or_too_many(&ask(pool, marked, rule), &mark)
+}
+
+/// The inequality of a term that section 2 reads: the original reads it, and its sum is not too long.
+pub(crate) fn inequality(term: &Rc<Term>) -> Option<Inequality> {
+    if is_over_long(term) { None } else { original::inequality(term) }
 }
 
 /// Whether a term is an inequality of a sum that is too long.

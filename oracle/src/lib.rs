@@ -3,11 +3,12 @@
 //! The six rules are the original's own source, taken at build time, with document 01's number put at each failing check
 //! (`build.rs`) and nothing else changed. The modules [`ast`], [`checker`] and [`rug`] stand in for what it takes from Carcara. The
 //! reader, the answers 40 and 41, the marks and the report are an account of document 01 of their own, the reader of OPB texts one of
-//! document 02's No. 1, and pol lines one of its No. 2, in which the original judges what each word gives.
+//! document 02's No. 1, pol lines one of its No. 2, in which the original judges what each word gives, and what refutes one of its No. 6,
+//! over the inequality that the original reads.
 //!
 //! ```
-//! let report = oracle::report(b"(assume a (>= 0 1))");
-//! assert_eq!(report, b"id=a rule=assume answer=0 plain=yes holds=yes\ncommands=1 refused=0 refuted=yes\n");
+//! let report = oracle::report(b"(assume a (>= x 1))");
+//! assert_eq!(report, b"id=a rule=assume answer=0 plain=yes holds=yes\ncommands=1 refused=0 refuted=no\n");
 //! ```
 
 // Without the original nothing uses some of what stands in for its surroundings.

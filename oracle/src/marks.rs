@@ -1,7 +1,7 @@
-//! The marks of document 01, section 5: `plain`, what is a statement, and what refutes. They are told from the terms, and nothing that
-//! the original keeps to itself is asked.
+//! The marks of document 01, section 5: `plain` and what is a statement, told from the terms; and what refutes, document 02, No. 6, told from
+//! the inequality that the original reads.
 
-use crate::answer::{relation, summands};
+use crate::answer::{inequality, relation, summands};
 use crate::ast::{Operator, Rc, Term, match_term};
 use crate::reader::{Command, Rule};
 use crate::rug::Integer;
@@ -137,8 +137,66 @@ fn is_arithmetic(term: &Rc<Term>) -> bool {
     }
 }
 
-/// Whether a clause is `(>= 0 k)`, k at least 1.
-pub fn is_contradiction(clause: &[Rc<Term>]) -> bool {
+/// Whether a clause is one inequality over names whose sum has a greatest value below its constant.
+pub fn unreachable(clause: &[Rc<Term>]) -> bool {
     let [term] = clause else { return false };
-    match_term!((>= 0 constant) = term).and_then(|constant| constant.as_integer()).is_some_and(|constant| constant >= 1)
+    inequality(term)
+        .is_some_and(|(totals, constant)| totals.iter().all(|(var, _, _)| var.is_var()) && greatest(&totals) < constant)
+}
+
+/// The greatest value of a sum over all 0-1 assignments: its value where every variable is 0, and what it gains by each variable that is
+/// better at 1.
+fn greatest(totals: &[(Rc<Term>, bool, Integer)]) -> Integer {
+    let mut greatest = Integer::default();
+    let mut gains: HashMap<&Rc<Term>, Integer> = HashMap::new();
+    for (var, negated, total) in totals {
+        let gain = gains.entry(var).or_default();
+        if *negated {
+            greatest += total;
+            *gain -= total;
+        } else {
+            *gain += total;
+        }
+    }
+    gains.into_values().filter(|gain| *gain > 0).for_each(|gain| greatest += gain);
+    greatest
+}
+
+#[cfg(test)]
+mod tests {
+    use crate::{ORIGINAL, account};
+
+    #[test]
+    fn what_refutes() {
+        if !ORIGINAL {
+            return;
+        }
+        let refuted = |term: &str, constant: i64| {
+            let text = format!("(assume a (>= {term} {constant}))");
+            account(text.as_bytes()).expect("the text is read").refuted
+        };
+        for (term, greatest) in [
+            ("0", 0),
+            ("(+ 0)", 0),
+            ("(* 1 x)", 1),
+            ("(* -1 x)", 0),
+            ("(* -1 (- 1 x))", 0),
+            ("(+ (* 2 x) (* 1 y))", 3),
+            ("(+ (* 2 x) (* 3 x) (* -1 x))", 4),
+            ("(+ (* 2 x) (* 5 (- 1 x)))", 5),
+            ("(+ (* -3 x) (* -2 (- 1 x)))", -2),
+            ("(+ (* -3 x) (* 0 (- 1 x)))", 0),
+            ("(+ (* 3 x) (* -2 (- 1 y)) (* -4 z))", 3),
+        ] {
+            assert!(!refuted(term, greatest), "{term}");
+            assert!(refuted(term, greatest + 1), "{term}");
+        }
+        for term in ["x", "4", "(+ 0 0)", "(+ x)", "(* x 2)", "(* 1 (+ x y))", "(* 0 (- x))", "(+ (* 1 x) 1)"] {
+            assert!(!refuted(term, 9), "{term}");
+        }
+        let summands = |count: usize| format!("(+{})", " (* 99999999 x)".repeat(count));
+        assert!(!refuted(&summands(512), 99_999_999));
+        let summands = |count: usize| format!("(+{})", " (* 0 x)".repeat(count));
+        assert!(refuted(&summands(512), 1) && !refuted(&summands(513), 1));
+    }
 }

@@ -2,7 +2,7 @@
 
 use crate::answer::{ACCEPTED, answer};
 use crate::ast::Pool;
-use crate::marks::{is_contradiction, is_plain, is_statement};
+use crate::marks::{is_plain, is_statement, unreachable};
 use crate::opb::{Constraint, assumptions, read_opb};
 use crate::pol::derived;
 use crate::reader::{Command, Refusal, Rule, read_behind};
@@ -15,7 +15,7 @@ pub struct Account {
     pub commands: Vec<Command>,
     /// What is said of each.
     pub lines: Vec<Line>,
-    /// Whether some line that holds is `(>= 0 k)`, k at least 1.
+    /// Whether some line that holds is an inequality over names whose sum has a greatest value below its constant.
     pub refuted: bool,
 }
 
@@ -51,7 +51,7 @@ pub fn account_both(opb: &[u8], text: &[u8]) -> Result<Account, Refusal> {
         };
         lines.push(line);
     }
-    let refuted = commands.iter().zip(&lines).any(|(command, line)| line.holds && is_contradiction(&command.clause));
+    let refuted = commands.iter().zip(&lines).any(|(command, line)| line.holds && unreachable(&command.clause));
     Ok(Account { commands, lines, refuted })
 }
 

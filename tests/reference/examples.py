@@ -202,7 +202,21 @@ FILES = (
     (b"(assume a " + b"(+ " * 64 + b"()" + b")" * 65, "refused=7 byte=202\n"),
     (b"(assume a (>= 0 1))", "refuted=yes\n"),
     (b"(assume a (>= 0 0))", "refuted=no\n"),
-    (b"(assume a (>= (+ 0) 1))", "refuted=no\n"),
+    (b"(assume a (>= (+ 0) 1))", "refuted=yes\n"),
+    (b"(assume a (>= (+ (* 2 x) (* 1 y)) 4))", "refuted=yes\n"),
+    (b"(assume a (>= (+ (* 2 x) (* 1 y)) 3))", "refuted=no\n"),
+    (b"(assume a (>= (* 1 x) 2))", "refuted=yes\n"),
+    (b"(assume a (>= x 2))", "refuted=no\n"),
+    (b"(assume a (>= (* -1 x) 0))", "refuted=no\n"),
+    (b"(assume a (>= (* -1 x) 1))", "refuted=yes\n"),
+    (b"(assume a (>= (+ (* -3 x) (* -2 (- 1 x))) -2))", "refuted=no\n"),
+    (b"(assume a (>= (+ (* -3 x) (* -2 (- 1 x))) -1))", "refuted=yes\n"),
+    (b"(assume a (>= (+ (* 2 x) (* 2 x)) 4))", "refuted=no\n"),
+    (b"(assume a (>= (+ (* 2 x) (* -2 x)) 1))", "refuted=yes\n"),
+    (b"(assume a (>= (* 1 (+ x y)) 5))", "refuted=no\n"),
+    (b"(assume a (> (* 1 x) 1))", "refuted=no\n"),
+    (b"(assume a (and (>= (* 1 x) 2)))", "refuted=no\n"),
+    (b"(step s (cl (>= (* 1 x) 2)) :rule cp_literal :args (x))", "refuted=no\n"),
 )
 
 
@@ -234,6 +248,8 @@ POL_FILES = (
     (b"(pol ~p x)", "refused=5 byte=5\n"), (b"(pol p ~cl)", "refused=5 byte=7\n"), (b"(pol p ~5)", "refused=5 byte=7\n"), (b"(pol p ~d 2 d s)", "rule=pol answer=0 plain=yes holds=yes\n"),
     (b"(pol p x)(pol p x)", "refused=8 byte=14\n"), (b"(assume a ~x)", "refused=5 byte=10\n"), (b"(step t (cl) :rule pol)", "refused=8 byte=19\n"),
     (b"(assume a (>= (* 1 x) 1))(assume b (>= (* 1 (- 1 x)) 1))(pol p a b +)", "refuted=yes\n"),
+    (b"(assume a (>= (+ (* 2 x) (* 1 y)) 3))(assume b (>= (* 1 (- 1 x)) 1))(pol p a b +)", "refuted=yes\n"),
+    (b"(assume a (>= (+ (* 2 x) (* 1 y)) 3))(assume b (>= (* 1 (- 1 x)) 0))(pol p a b +)", "refuted=no\n"),
     (b"(assume a (>= (* 2 x) 1))(pol p a)(step s (cl (>= (* 1 x) 1)) :rule cp_division :premises (p) :args (2))", "id=s rule=cp_division answer=0 plain=yes holds=yes\n"),
     (b"(pol p +)(step s (cl (>= 0 0)) :rule cp_saturation :premises (p))", "id=s rule=cp_saturation answer=21 plain=no holds=no\n"),
 )

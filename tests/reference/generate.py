@@ -334,11 +334,23 @@ class Maker:
         self.add("cp_addition", [inequality(zero, total)], [left, right])
 
     def assumed_refutation(self):
-        """`(>= 0 k)` as an assumption, k on both sides of 1, and terms like it."""
-        self.assume(self.rng.choice((
-            inequality(0, 1), inequality(0, 7), inequality(0, 0), inequality(0, -1),
-            inequality(apply("+", 0), 1), inequality(0, "x"), apply(">", 0, 1), apply(">=", 0, 1, 1),
-            apply("and", inequality(0, 1)), inequality(1, 2))))
+        """A sum as an assumption, with a constant on both sides of its greatest value, and terms like it."""
+        if self.chance(60):
+            return self.assume(self.at_the_greatest())
+        return self.assume(self.rng.choice((
+            inequality(0, 1), inequality(0, 7), inequality(0, 0), inequality(0, -1), inequality(apply("+", 0), 1), inequality(0, "x"), inequality("x", 2),
+            apply(">", 0, 1), apply(">", apply("*", 1, "x"), 1), apply(">=", 0, 1, 1), apply("and", inequality(0, 1)), inequality(1, 2), inequality(apply("+", 0, 0), 1),
+            inequality(apply("*", 1, apply("+", "x", "y")), 5))))
+
+    def at_the_greatest(self):
+        """A sum of literals that repeat and meet their opposites, at its greatest value, one above it, or one below."""
+        summands, totals = [], {}
+        for _ in range(self.rng.choice((1, 1, 2, 3, 4))):
+            k, variable, negated = self.rng.choice((-3, -2, -1, 0, 1, 2, 3)), self.rng.choice("xxyz"), self.chance(40)
+            summands.append(apply("*", k, negation(variable) if negated else variable))
+            totals.setdefault(variable, [0, 0])[negated] += k
+        constant = sum(map(max, totals.values())) + self.rng.choice((-1, 0, 0, 1, 1))
+        return inequality(summands[0] if len(summands) == 1 else apply("+", *summands), constant)
 
     # ------------------------------------------------------------ near misses
 

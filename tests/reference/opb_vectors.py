@@ -60,7 +60,7 @@ PLACES = (
 )
 # A word with its bytes, and the number that refuses it where it may not stand.
 WORDS = (
-    ("number", b"3", 51), ("literal", b"x7", 51), ("negated", b"~x7", 51), ("at_least", b">=", 51), ("equal", b"=", 51),
+    ("number", b"2", 51), ("literal", b"x7", 51), ("negated", b"~x7", 51), ("at_least", b">=", 51), ("equal", b"=", 51),
     ("semicolon", b";", 51), ("opening", b"(", 51), ("closing", b")", 51), ("end", b"", 51), ("min", b"min:", 50),
     ("max", b"max:", 50), ("star", b"*", 5), ("no_word", b"y7", 5), ("malformed", b"007", 4), ("bad_byte", b"\0", 3))
 
@@ -282,7 +282,7 @@ def steps():
     yield read("step_division", b"3 x1 2 ~x2 1 x3 >= 3 ;", 1, step("t", "cp_division", "c1", "(>= (+ (* 2 x1) (* 1 (- 1 x2)) (* 1 x3)) 2)", "2", HOLDS))
     yield read("step_division_31", b"3 x1 >= 2 ;", 1, step("t", "cp_division", "c1", "(>= (* 1 x1) 1)", "2", 31), step("u", "cp_addition", "t t", "(>= (* 2 x1) 2)", "", PLAIN))
     yield read("step_saturation", b"5 x1 1 ~x2 >= 3 ;", 1, step("t", "cp_saturation", "c1", "(>= (+ (* 3 x1) (* 1 (- 1 x2))) 3)", "", HOLDS))
-    yield read("step_saturation_32", b"-5 x1 >= 3 ;", 1, step("t", "cp_saturation", "c1", "(>= (* -5 x1) 3)", "", 32))
+    yield read("step_saturation_32", b"-5 x1 5 x2 >= 3 ;", 1, step("t", "cp_saturation", "c1", "(>= (+ (* -5 x1) (* 5 x2)) 3)", "", 32))
     yield read("step_multiplication", b"1 x1 -2 ~x2 >= -1 ;", 1, step("t", "cp_multiplication", "c1", "(>= (+ (* 3 x1) (* -6 (- 1 x2))) -3)", "3", HOLDS))
     yield read(
         "step_literal", b"1 x1 1 x2 >= 2 ;", 1, step("t", "cp_literal", "", "(>= (* 1 (- 1 x2)) 0)", "(- 1 x2)", HOLDS),
@@ -307,8 +307,29 @@ def refutations():
     """What refutes without a step, and what does not."""
     for name, opb, count, refuted in (
             ("none_at_least_1", b">= 1 ;", 1, True), ("none_at_least_0", b">= 0 ;", 1, False), ("none_at_least_minus_1", b">= -1 ;", 1, False), ("none_equal_1", b"= 1 ;", 2, True),
-            ("none_equal_0", b"= 0 ;", 2, False), ("none_equal_minus_1", b"= -1 ;", 2, True), ("zero_coefficient", b"0 x1 >= 1 ;", 1, False), ("over_the_greatest_value", b"1 x1 >= 2 ;", 1, False)):
+            ("none_equal_0", b"= 0 ;", 2, False), ("none_equal_minus_1", b"= -1 ;", 2, True), ("zero_coefficient", b"0 x1 >= 1 ;", 1, True), ("zero_coefficient_at_least_0", b"0 x1 >= 0 ;", 1, False),
+            ("over_the_greatest_value", b"1 x1 >= 2 ;", 1, True), ("the_greatest_value", b"1 x1 >= 1 ;", 1, False), ("negated_over_the_greatest_value", b"1 ~x1 >= 2 ;", 1, True),
+            ("negative_at_least_1", b"-1 x1 >= 1 ;", 1, True), ("negative_at_least_0", b"-1 x1 >= 0 ;", 1, False), ("negative_negated_at_least_1", b"-1 ~x1 >= 1 ;", 1, True),
+            ("two_over_the_greatest_value", b"2 x1 1 ~x2 >= 4 ;", 1, True), ("two_at_the_greatest_value", b"2 x1 1 ~x2 >= 3 ;", 1, False),
+            ("mixed_over_the_greatest_value", b"2 x1 -5 ~x2 3 ~x3 -1 x4 >= 6 ;", 1, True), ("mixed_at_the_greatest_value", b"2 x1 -5 ~x2 3 ~x3 -1 x4 >= 5 ;", 1, False),
+            ("repeated_over_the_greatest_value", b"2 x1 2 x1 -1 x1 >= 4 ;", 1, True), ("repeated_at_the_greatest_value", b"2 x1 2 x1 -1 x1 >= 3 ;", 1, False),
+            ("x1_and_x01_differ", b"1 x1 1 x01 >= 2 ;", 1, False),
+            ("opposites_over_the_greatest_value", b"1 x1 1 ~x1 >= 2 ;", 1, True), ("opposites_at_the_greatest_value", b"1 x1 1 ~x1 >= 1 ;", 1, False),
+            ("negative_opposites_over_the_greatest_value", b"-3 x1 -2 ~x1 >= -1 ;", 1, True), ("negative_opposites_at_the_greatest_value", b"-3 x1 -2 ~x1 >= -2 ;", 1, False),
+            ("first_half_over_the_greatest_value", b"1 x1 1 x2 = 3 ;", 2, True), ("both_halves_at_the_greatest_value", b"1 x1 = 1 ;", 2, False),
+            ("second_half_over_the_greatest_value", b"1 x1 1 x2 = -1 ;", 2, True), ("second_half_at_the_greatest_value", b"1 x1 1 x2 = 0 ;", 2, False),
+            ("second_half_of_opposites", b"1 x1 1 ~x1 = 0 ;", 2, True), ("both_halves_of_opposites_at_their_values", b"1 x1 1 ~x1 = 1 ;", 2, False),
+            ("no_half_alone", b"2 x1 2 x2 = 3 ;", 2, False), ("no_constraint_alone", b"1 x1 >= 1 ; 1 ~x1 >= 1 ;", 2, False),
+            ("the_first_of_three", b"1 x1 >= 2 ; 1 x1 >= 1 ; 1 x2 >= 1 ;", 3, True), ("the_last_of_three", b"1 x1 >= 1 ; 1 x2 >= 1 ; 1 x1 1 x2 >= 3 ;", 3, True),
+            ("largest", b"99999998 x1 >= 99999999 ;", 1, True), ("smallest", b"-99999999 x1 -99999999 ~x1 >= -99999999 ;", 1, False),
+            ("512_summands", b"1 x1 " * 512 + b">= 513 ;", 1, True), ("512_summands_at_the_greatest_value", b"1 x1 " * 512 + b">= 512 ;", 1, False),
+            ("513_summands", b"1 x1 " * 513 + b">= 514 ;", 1, False),
+            ("512_summands_of_the_largest", b"99999999 x1 " * 512 + b">= 99999999 ;", 1, False), ("512_summands_of_the_largest_equal", b"99999999 x1 " * 512 + b"= -99999999 ;", 2, True)):
         yield read("refuted_%s" % name, opb, count, refuted=refuted)
+    yield read("refuted_without_the_proof", b"1 x1 >= 2 ;", 1, step("t", "cp_multiplication", "c1", "(>= (* 2 x1) 5)", "2", 29), refuted=True)
+    yield read("refuted_by_the_proofs_own_assumption", b"1 x1 >= 1 ;", 1, given("a", "(>= (* 1 x1) 2)"), refuted=True)
+    yield read("refuted_by_a_sum_of_both", b"2 x1 1 x2 >= 3 ;", 1, given("a", "(>= (* 1 (- 1 x1)) 1)"), step("t", "cp_addition", "c1 a", "(>= (+ (* 1 x1) (* 1 x2)) 3)", "", HOLDS), refuted=True)
+    yield read("refuted_no_by_a_refused_sum_of_both", b"2 x1 1 x2 >= 3 ;", 1, given("a", "(>= (* 1 (- 1 x1)) 0)"), step("t", "cp_addition", "c1 a", "(>= (+ (* 1 x1) (* 1 x2)) 3)", "", 29))
 
 
 # ---------------------------------------------------------------- limits

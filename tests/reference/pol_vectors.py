@@ -129,7 +129,7 @@ def answers():
         yield fails("52_" + name, text, 52, A)
     yield derives("53_no_number_beyond", "k ~x %d * +" % LARGEST, "(>= 0 0)", LARGE)
     for name, text in (("sum", "k k +"), ("coefficient_by_times", "k 2 *"), ("constant_by_plus", "a a +"), ("constant_below", "b b +")):
-        yield fails("53_" + name, text, 53, LARGE, given("a", "(>= (* 1 y) 50000000)"), given("b", "(>= (* 1 y) -50000000)"))
+        yield fails("53_" + name, text, 53, LARGE, given("a", "(>= (+ (* 30000000 y) (* 30000000 z)) 50000000)"), given("b", "(>= (* 1 y) -50000000)"))
     yield fails("53_pushed_total", "a", 53, given("a", "(>= (+ (* %d x) (* 1 x)) 0)" % LARGEST))
     yield fails("53_pushed_total_below", "a", 53, given("a", "(>= (+ (* -%d x) (* -1 x)) 0)" % LARGEST))
     yield derives("53_a_pushed_total_that_comes_back", "a", "(>= (* %d x) 0)" % LARGEST, given("a", "(>= (+ (* %d x) (* 1 x) (* -1 x)) 0)" % LARGEST))
@@ -284,7 +284,30 @@ def citations():
     yield read("pol_refuted_by_one_line", given("a", "(>= (* 2 x) 1)"), given("b", "(>= (* 2 (- 1 x)) 1)"), pol("q", "a 2 d b 2 d +"), refuted=True)
     yield read("pol_not_refuted_by_a_line_that_does_not_hold", one, refused_step, given("b", "(>= (* 9 (- 1 x)) 1)"), pol("q", "r b +", PLAIN), *shown("q", "(>= 0 1)", PLAIN))
     yield read("pol_not_refuted_by_0", pol("p", "x 0 *"))
-    yield read("pol_not_refuted_by_a_literal", given("a", "(>= (* 1 x) 2)"), pol("p", "a"))
+    yield read("pol_not_refuted_at_the_greatest_value", given("a", "(>= (* 2 x) 2)"), pol("p", "a"))
+    yield read("pol_refuted_by_a_literal", given("a", "(>= (* 1 x) 2)"), pol("p", "a"), refuted=True)
+    two, not_x = given("a", "(>= (+ (* 2 x) (* 1 y)) 3)"), given("b", "(>= (* 1 (- 1 x)) 1)")
+    yield read("pol_refuted_by_a_sum", two, not_x, pol("p", "a b +"), refuted=True)
+    yield read("pol_refuted_by_a_sum_that_is_shown", two, not_x, pol("p", "a b +"), *shown("p", "(>= (+ (* 1 x) (* 1 y)) 3)"), refuted=True)
+    yield read("pol_refuted_by_a_sum_times_2", two, not_x, pol("p", "a b + 2 *"), refuted=True)
+    yield read("pol_not_refuted_by_a_sum_divided", two, not_x, pol("p", "a b + 2 d"), *shown("p", "(>= (+ (* 1 x) (* 1 y)) 2)"))
+    yield read("pol_refuted_by_a_negative_sum", given("a", "(>= (+ (* -1 x) (* -1 y)) 0)"), given("b", "(>= (* 1 x) 1)"), pol("p", "a b +"), *shown("p", "(>= (* -1 y) 1)"), refuted=True)
+    yield read("pol_not_refuted_by_a_negative_sum", given("a", "(>= (+ (* -1 x) (* -1 y)) 0)"), given("b", "(>= (* 1 x) 0)"), pol("p", "a b +"), *shown("p", "(>= (* -1 y) 0)"))
+    yield read("pol_not_refuted_by_a_sum_before_its_end", two, not_x, pol("p", "a b + 0 *"))
+    yield read("pol_not_refuted_by_a_sum_with_axioms", two, pol("p", "a ~x +"), *shown("p", "(>= (+ (* 1 x) (* 1 y)) 2)"))
+    yield read("pol_not_refuted_by_axioms", pol("p", "x y + ~x + ~y +"), *shown("p", "(>= 0 -2)"))
+    yield read("pol_not_refuted_by_a_sum_that_does_not_hold", two, step("b", "cp_literal", "", "(>= (* 1 (- 1 x)) 1)", "(- 1 x)", 36), pol("p", "a b +", PLAIN),
+               *shown("p", "(>= (+ (* 1 x) (* 1 y)) 3)", PLAIN))
+    yield read("pol_not_refuted_by_a_refused_line", two, not_x, pol("p", "a b + +", 52), pol("q", "a b", 52), pol("r", "a b + 99999999 *", 53), pol("s1", "a b + 0 d", 54))
+    yield read("pol_refuted_behind_a_refused_line", two, not_x, pol("p", "a b + +", 52), pol("q", "a b +"), pol("r", "q 0 d", 54), refuted=True)
+    yield read("pol_refuted_by_opposites", given("a", "(>= (+ (* -3 x) (* -2 (- 1 x)) (* 1 y)) -1)"), given("b", "(>= (* 1 (- 1 y)) 1)"), pol("p", "a b +"),
+               *shown("p", "(>= (* 1 (- 1 x)) 2)"), refuted=True)
+    yield read("pol_refuted_by_opposites_that_are_pushed", given("a", "(>= (+ (* -3 x) (* -2 (- 1 x))) -1)"), pol("p", "a"), *shown("p", "(>= (+ (* -3 x) (* -2 (- 1 x))) -1)"), refuted=True)
+    yield read("pol_not_refuted_by_opposites_that_are_pushed", given("a", "(>= (+ (* -3 x) (* -2 (- 1 x))) -2)"), pol("p", "a"), *shown("p", "(>= (+ (* -3 x) (* -2 (- 1 x))) -2)"))
+    yield read("pol_refuted_by_63_literals", given("a", "(>= %s 63)" % variable_sum(63)), given("b", "(>= (* 1 (- 1 v00)) 1)"), pol("p", "a b +"), refuted=True)
+    yield read("pol_refuted_by_the_largest", given("a", "(>= (* %d x) %d)" % (LARGEST, LARGEST)), given("b", "(>= (* 1 (- 1 x)) 1)"), pol("p", "a b +"),
+               *shown("p", "(>= (* %d x) %d)" % (LARGEST - 1, LARGEST)), refuted=True)
+    yield read("pol_not_refuted_by_what_is_not_pushed", given("a", "(>= x 2)"), pol("p", "a", 54))
     yield read("pol_refuted_with_zeros", given("a", "(>= (+ (* 0 x) (* 0 y)) 1)"), pol("p", "a"), refuted=True)
     yield read("pol_cited_by_each_rule", given("a", "(>= (+ (* 5 x) (* 2 (- 1 y))) 3)"), pol("p", "a"),
                step("t1", "cp_addition", "p a", "(>= (+ (* 10 x) (* 4 (- 1 y))) 6)", "", HOLDS),

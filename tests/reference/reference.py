@@ -928,13 +928,24 @@ def pol_line(command, cited):
     return Line(command._replace(clause=[derived]), ACCEPTED, True, all(line.holds for line in cited))
 
 
-def is_refutation(line):
-    """The line holds with clause `(>= 0 k)`, k at least 1."""
-    clause = line.command.clause
-    inequality = match(clause[0], ">=", 2) if len(clause) == 1 else None
-    if not line.holds or inequality is None:
-        return False
-    return inequality[0] == 0 and is_integer(inequality[1]) and inequality[1] >= 1
+def greatest(pbsum):
+    """No. 6: the sum's greatest value over all 0-1 assignments, for each variable the larger of its plain and its negated total, an absent one counting as 0."""
+    return sum(max(pbsum.get((variable, False), 0), pbsum.get((variable, True), 0)) for variable in {variable for variable, _ in pbsum})
+
+
+def named_inequality(clause):
+    """Sum and constant of a clause of one term that section 2 reads as an inequality over names, else None."""
+    try:
+        pbsum, constant = unwrap_pseudoboolean_inequality(only_term(clause))
+    except Refused:
+        return None
+    return (pbsum, constant) if all_names(pbsum) else None
+
+
+def unreachable(clause):
+    """No. 6: it is such an inequality, and its greatest value is below its constant."""
+    inequality = named_inequality(clause)
+    return inequality is not None and greatest(inequality[0]) < inequality[1]
 
 
 # ---------------------------------------------------------------- report (section 6)
@@ -964,7 +975,7 @@ def report_of(commands):
     lines = lines_of(commands)
     refused = sum(line.answer != ACCEPTED for line in lines.values())
     totals = "commands=%d refused=%d refuted=%s\n" % (
-        len(lines), refused, yes_or_no(any(map(is_refutation, lines.values()))))
+        len(lines), refused, yes_or_no(any(line.holds and unreachable(line.command.clause) for line in lines.values())))
     return ("".join(map(written, lines.values())) + totals).encode("ascii")
 
 

@@ -578,24 +578,82 @@ def links():
                step("u", "cp_part", "t", "(= y z)", "1", HOLDS))
 
 
+# Sums over names that section 2 reads, and the greatest value of each over all 0-1 assignments (document 02, No. 6).
+SUMS = (
+    ("nothing", "0", 0), ("sum_of_0", "(+ 0)", 0),
+    ("a_literal", "(* 1 x)", 1), ("a_sum_of_a_literal", "(+ (* 1 x))", 1), ("a_negated_literal", "(* 1 (- 1 x))", 1), ("coefficient_3", "(* 3 x)", 3),
+    ("coefficient_0", "(* 0 x)", 0), ("negated_coefficient_0", "(* 0 (- 1 x))", 0),
+    ("coefficient_minus_1", "(* -1 x)", 0), ("negated_coefficient_minus_1", "(* -1 (- 1 x))", 0), ("coefficient_minus_7", "(* -7 x)", 0),
+    ("two_names", "(+ (* 2 x) (* 1 y))", 3), ("two_names_one_negated", "(+ (* 2 x) (* 1 (- 1 y)))", 3), ("two_names_both_negated", "(+ (* 2 (- 1 x)) (* 1 (- 1 y)))", 3),
+    ("two_names_one_negative", "(+ (* 2 x) (* -1 y))", 2), ("two_names_both_negative", "(+ (* -2 x) (* -1 y))", 0), ("two_names_with_a_zero", "(+ (* 2 x) (* 0 y))", 2),
+    ("four_names", "(+ (* 2 x) (* -3 y) (* 4 (- 1 z)) (* -5 (- 1 w)))", 6), ("names_alike", "(+ (* 1 x) (* 1 x1) (* 1 X))", 3),
+    ("forty_names", named(40), 40), ("forty_names_negative", named(40, "(* -1 x%d)"), 0),
+    ("a_literal_twice", "(+ (* 1 x) (* 1 x))", 2), ("a_negated_literal_twice", "(+ (* 2 (- 1 x)) (* 3 (- 1 x)))", 5), ("a_literal_again_behind_another", "(+ (* 2 x) (* 1 y) (* 2 x))", 5),
+    ("a_literal_that_cancels_itself", "(+ (* 2 x) (* -2 x))", 0), ("a_literal_with_a_negative_total", "(+ (* 2 x) (* -3 x))", 0), ("a_literal_with_a_positive_total", "(+ (* -2 x) (* 3 x))", 1),
+    ("opposites_both_positive", "(+ (* 2 x) (* 3 (- 1 x)))", 3), ("opposites_equal", "(+ (* 2 x) (* 2 (- 1 x)))", 2), ("opposites_negated_first", "(+ (* 3 (- 1 x)) (* 5 x))", 5),
+    ("opposites_both_negative", "(+ (* -3 x) (* -2 (- 1 x)))", -2), ("opposites_both_negative_and_equal", "(+ (* -3 x) (* -3 (- 1 x)))", -3),
+    ("opposites_the_plain_one_negative", "(+ (* -3 x) (* 2 (- 1 x)))", 2), ("opposites_the_negated_one_negative", "(+ (* 3 x) (* -2 (- 1 x)))", 3),
+    ("opposites_a_negative_and_a_zero", "(+ (* -3 x) (* 0 (- 1 x)))", 0), ("opposites_a_negative_and_a_total_of_zero", "(+ (* 1 (- 1 x)) (* -3 x) (* -1 (- 1 x)))", 0),
+    ("opposites_by_their_totals", "(+ (* 2 x) (* 3 (- 1 x)) (* 2 x) (* -1 (- 1 x)))", 4), ("opposites_with_negative_totals", "(+ (* 2 x) (* 1 (- 1 x)) (* -5 x) (* -5 (- 1 x)))", -3),
+    ("opposites_of_two_names", "(+ (* -3 x) (* 5 y) (* -2 (- 1 x)) (* 7 (- 1 y)))", 5), ("opposites_of_two_names_negative", "(+ (* -3 x) (* -5 y) (* -2 (- 1 x)) (* -7 (- 1 y)))", -7),
+    ("almost_the_largest", "(* 99999998 x)", 99999998), ("almost_the_largest_of_two", "(+ (* 49999999 x) (* 49999999 (- 1 y)))", 99999998),
+    ("the_smallest", "(+ (* -99999999 x) (* -99999999 (- 1 x)))", -99999999),
+    ("512_summands", plus(512, "(* 1 x)"), 512), ("512_zeros", plus(512, "(* 0 x)"), 0), ("512_names", named(512), 512), ("512_negative_names", named(512, "(* -1 (- 1 x%d))"), 0),
+    ("512_of_the_smallest", plus(512, "(* -99999999 x)"), 0), ("512_that_cancel", "(+%s)" % (" (* 99999999 x) (* -99999999 x)" * 256), 0))
+
+# Assumptions that refute nothing, whatever their constants: section 2 does not read them, or some term in a variable's place is no name.
+NO_SUMS = (
+    ("bare_name", "(>= x 2)"), ("sum_of_a_bare_name", "(>= (+ x) 2)"), ("bare_names", "(>= (+ x y) 3)"), ("bare_negation", "(>= (- 1 x) 2)"), ("two_zeros", "(>= (+ 0 0) 1)"),
+    ("numeral", "(>= 4 5)"), ("sum_of_a_numeral", "(>= (+ 4) 5)"), ("left_1", "(>= 1 2)"), ("numeral_among_summands", "(>= (+ (* 1 x) 0) 2)"), ("bare_name_among_summands", "(>= (+ (* 1 x) y) 3)"),
+    ("coefficient_behind", "(>= (* x 1) 2)"), ("coefficient_that_is_a_sum", "(>= (* (+ 1) x) 2)"), ("coefficient_that_is_a_difference", "(>= (* (- 1) x) 2)"), ("three_factors", "(>= (* 1 1 x) 2)"),
+    ("sum_in_a_sum", "(>= (+ (+ (* 1 x))) 2)"), ("constant_that_is_a_name", "(>= 0 x)"), ("constant_that_is_a_sum", "(>= 0 (+ 1))"), ("constant_that_is_a_difference", "(>= (* 1 x) (- 3 1))"),
+    ("513_summands", "(>= %s 514)" % plus(513, "(* 1 x)")), ("513_zeros", "(>= %s 1)" % plus(513, "(* 0 x)")), ("513_names", "(>= %s 514)" % named(513)),
+    ("sum_as_variable", "(>= (* 1 (+ x y)) 5)"), ("product_as_variable", "(>= (* 1 (* 1 x)) 5)"), ("numeral_as_variable", "(>= (* 2 3) 9)"), ("negated_numeral_as_variable", "(>= (* 1 (- 1 1)) 3)"),
+    ("negation_of_a_negation", "(>= (* 1 (- 1 (- 1 x))) 2)"), ("difference_as_variable", "(>= (* 1 (- x)) 2)"), ("two_minus_x_as_variable", "(>= (* 1 (- 2 x)) 3)"),
+    ("sum_of_a_name_as_variable", "(>= (* 1 (+ x)) 2)"), ("zero_of_no_name", "(>= (* 0 (+ x y)) 1)"), ("one_of_two_no_name", "(>= (+ (* 1 x) (* 1 (+ x y))) 9)"),
+    ("greater", "(> (* 1 x) 1)"), ("greater_of_0", "(> 0 1)"), ("less", "(< (* 1 x) 0)"), ("less_turned", "(< 1 0)"), ("at_most", "(<= (* 1 x) -1)"), ("at_most_turned", "(<= 2 (* 1 x))"),
+    ("equation", "(= (* 1 x) 2)"), ("equation_of_0", "(= 0 1)"), ("equation_of_statements", "(= (>= (* 1 x) 2) (>= 0 0))"),
+    ("and", "(and (>= 0 1))"), ("and_of_a_literal", "(and (>= (* 1 x) 2))"), ("and_of_two", "(and (>= 0 1) (>= 0 1))"))
+
+# Terms that are no statements: their lines do not hold, whatever section 2 reads.
+UNMARKED = (
+    ("three_sides", "(>= 0 1 1)"), ("three_sides_of_a_literal", "(>= (* 1 x) 2 2)"), ("one_side", "(>= 1)"),
+    ("and_as_variable", "(>= (* 1 (and x)) 2)"), ("relation_as_variable", "(>= (* 1 (>= x 1)) 2)"),
+    ("and_with_a_name", "(and (>= 0 1) x)"), ("and_as_constant", "(>= 0 (and x))"))
+
+
+def greatest():
+    """`refuted` by one assumption: its sum's greatest value is below its constant (document 02, No. 6)."""
+    for name, term, value in SUMS:
+        yield read("greatest_%s_is_reached" % name, given("a", "(>= %s %d)" % (term, value)))
+        yield read("greatest_%s_is_exceeded" % name, given("a", "(>= %s %d)" % (term, value + 1)), refuted=True)
+    for name, term, refuted in (
+            ("0_largest", "(>= 0 99999999)", True), ("0_minus_1", "(>= 0 -1)", False), ("0_smallest", "(>= 0 -99999999)", False),
+            ("literal_largest", "(>= (* 1 x) 99999999)", True), ("literal_smallest", "(>= (* 1 x) -99999999)", False), ("largest_of_largest", "(>= (* 99999999 x) 99999999)", False),
+            ("opposites_above_the_smallest", "(>= (+ (* -99999999 x) (* -99999999 (- 1 x))) 99999999)", True),
+            # sums beyond 32 bits, on both sides of every constant, and one that is 2 to the 32
+            ("512_of_the_largest", "(>= %s 99999999)" % plus(512, "(* 99999999 x)"), False), ("512_names_of_the_largest", "(>= %s 99999999)" % named(512, "(* 99999999 x%d)"), False),
+            ("512_of_both_smallest", "(>= (+%s) -99999999)" % (" (* -99999999 x) (* -99999999 (- 1 x))" * 256), True),
+            ("512_of_the_smallest_and_the_largest", "(>= (+%s) 99999999)" % (" (* -99999999 x) (* 99999999 (- 1 x))" * 256), False),
+            ("two_to_the_32", "(>= %s 1)" % plus(64, "(* 67108864 x)"), False), ("minus_two_to_the_32", "(>= (+%s) 0)" % (" (* -67108864 x) (* -67108864 (- 1 x))" * 64), True)):
+        yield read("greatest_" + name, given("a", term), refuted=refuted)
+    for name, term in NO_SUMS:
+        yield read("refuted_no_by_an_assumption_" + name, given("a", term))
+    for name, term in UNMARKED:
+        yield read("refuted_no_by_no_statement_" + name, given("a", term, False))
+    yield refused("greatest_largest_is_not_exceeded", 4, b"(assume a (>= (* 99999999 x) ^100000000))")
+
+
 def refutations():
-    """`refuted`: from marked lines with clause `(>= 0 k)`, k at least 1, and from nothing else."""
-    for name, term, holds, refuted in (
-            ("1", "(>= 0 1)", True, True), ("largest", "(>= 0 99999999)", True, True), ("0", "(>= 0 0)", True, False),
-            ("minus_1", "(>= 0 -1)", True, False),
-            ("sum_of_0", "(>= (+ 0) 1)", True, False), ("greater", "(> 0 1)", True, False), ("less", "(< 1 0)", True, False),
-            ("at_most", "(<= 1 0)", True, False), ("left_1", "(>= 1 2)", True, False),
-            ("name", "(>= 0 x)", True, False), ("sum", "(>= 0 (+ 1))", True, False), ("three", "(>= 0 1 1)", False, False),
-            ("equation", "(= 0 1)", True, False),
-            ("and", "(and (>= 0 1))", True, False), ("coefficient_0", "(>= (* 0 x) 1)", True, False)):
-        yield read("refuted_by_an_assumption_" + name, given("a", term, holds), refuted=refuted)
+    """`refuted`: from lines that hold, and from no others."""
     x, not_x = given("a", "(>= (* 1 x) 1)"), given("b", "(>= (* 1 (- 1 x)) 1)")
     yield read("refuted_by_an_addition", x, not_x, step("t", "cp_addition", "a b", "(>= 0 1)", "", HOLDS), refuted=True)
     yield read("refuted_in_the_middle", x, not_x, step("t", "cp_addition", "a b", "(>= 0 1)", "", HOLDS), step("u", "cp_part", "t", "x", "0", 41),
                given("c", "(>= 0 0)"), refuted=True)
     yield read("refuted_by_the_last_of_two", given("c", "(>= 0 0)"), x, not_x, step("s", "cp_addition", "a b", "(>= 0 2)", "", 29),
                step("t", "cp_addition", "a b", "(>= 0 1)", "", HOLDS), refuted=True)
-    yield read("refuted_by_a_zero_sum_no", x, not_x, step("t", "cp_addition", "a b", "(>= (* 0 x) 1)", "", HOLDS))
+    yield read("refuted_by_a_zero_sum", x, not_x, step("t", "cp_addition", "a b", "(>= (* 0 x) 1)", "", HOLDS), refuted=True)
+    yield read("refuted_no_by_two_that_are_not_added", x, not_x)
     yield read("refuted_no_by_a_refused_line", x, not_x, step("t", "cp_addition", "a b", "(>= 0 2)", "", 29))
     yield read("refuted_no_by_a_line_that_is_not_plain", given("a", "(>= (* 1 (* x y)) 1)"), given("b", "(>= (* 1 (- 1 (* x y))) 1)"),
                step("t", "cp_addition", "a b", "(>= 0 1)", "", ODD))
@@ -619,7 +677,58 @@ def refutations():
         step("m", "cp_literal", "", "(>= (* 1 (- 1 y)) 0)", "(- 1 y)", HOLDS), step("s", "cp_addition", "p l", "(>= (* 1 y) 2)", "", HOLDS),
         step("r", "cp_addition", "s m", "(>= 0 1)", "", HOLDS))
     yield read("refuted_by_a_whole_proof", *proof, refuted=True)
-    yield read("refuted_no_by_all_of_it_but_the_last_step", *proof[:-1])
+    yield read("refuted_by_all_of_it_but_the_last_step", *proof[:-1], refuted=True)
+    yield read("refuted_by_it_up_to_the_part", *proof[:4], refuted=True)
+    yield read("refuted_no_by_it_before_the_part", *proof[:3])
+
+
+def unreachable_steps():
+    """`refuted` by steps that derive a sum over literals: of each rule, and where their lines do not hold."""
+    two, not_x, one = given("a", "(>= (+ (* 2 x) (* 1 y)) 3)"), given("b", "(>= (* 1 (- 1 x)) 1)"), given("b", "(>= (* 1 (- 1 x)) 0)")
+    three, reached = "(>= (+ (* 1 x) (* 1 y)) 3)", "(>= (+ (* 1 x) (* 1 y)) 2)"
+    yield read("unreachable_by_an_addition", two, not_x, step("t", "cp_addition", "a b", three, "", HOLDS), refuted=True)
+    yield read("unreachable_by_an_addition_with_zeros", two, not_x, step("t", "cp_addition", "a b", "(>= (+ (* 1 x) (* 0 z) (* 1 y) (* 0 (- 1 x))) 3)", "", HOLDS), refuted=True)
+    yield read("unreachable_no_by_an_addition", two, one, step("t", "cp_addition", "a b", reached, "", HOLDS))
+    yield read("unreachable_no_by_a_refused_addition", two, one, step("t", "cp_addition", "a b", three, "", 29))
+    yield read("unreachable_no_by_a_conclusion_of_two_terms", two, not_x, step("t", "cp_addition", "a b", "%s %s" % (three, three), "", 21))
+    yield read("unreachable_no_by_a_conclusion_of_no_terms", two, not_x, step("t", "cp_addition", "a b", "", "", 21))
+    yield read("unreachable_no_by_an_addition_that_is_not_plain", given("a", "(>= (+ (* 2 x) (* 1 y)) 2)"), given("z", NONE),
+               step("t", "cp_addition", "a z", "(>= (+ (* 0 x) (* 1 y)) 2)", "", ODD))
+    yield read("unreachable_no_by_an_addition_behind_a_refused_step", two, step("b", "cp_literal", "", "(>= (* 1 (- 1 x)) 1)", "(- 1 x)", 36),
+               step("t", "cp_addition", "a b", three, "", PLAIN))
+    yield read("unreachable_no_by_an_addition_over_other_terms", given("a", "(>= (+ (* 2 x) (* 1 (+ y))) 3)"), not_x, step("t", "cp_addition", "a b", "(>= (+ (* 1 x) (* 1 (+ y))) 3)", "", ODD))
+    for rule, premise, clause, arguments in (
+            ("cp_multiplication", "(>= (* 1 x) 2)", "(>= (* 3 x) 6)", "3"), ("cp_division", "(>= (* 2 x) 3)", "(>= (* 1 x) 2)", "2"), ("cp_saturation", "(>= (* 1 x) 2)", "(>= (* 1 x) 2)", "")):
+        # a premise that some assignment satisfies gives a conclusion that it satisfies
+        yield read("unreachable_by_%s_of_such_a_premise" % rule, given("a", premise), step("t", rule, "a", clause, arguments, HOLDS), refuted=True)
+        yield read("unreachable_no_by_%s_behind_a_refused_step" % rule, step("a", "cp_literal", "", premise, "x", 36), step("t", rule, "a", clause, arguments, PLAIN))
+    yield read("unreachable_by_a_premise_times_0", given("a", "(>= (* 1 x) 2)"), step("t", "cp_multiplication", "a", "(>= (* 0 x) 0)", "0", HOLDS), refuted=True)
+    yield read("unreachable_no_by_a_multiplication", two, step("t", "cp_multiplication", "a", "(>= (+ (* 4 x) (* 2 y)) 6)", "2", HOLDS),
+               step("u", "cp_multiplication", "a", "(>= (+ (* 4 x) (* 2 y)) 7)", "2", 29))
+    yield read("unreachable_no_by_a_division_that_rounds_up", given("a", "(>= (+ (* 2 x) (* 2 y)) 3)"), step("t", "cp_division", "a", reached, "2", HOLDS))
+    yield read("unreachable_no_by_a_saturation", given("a", "(>= (+ (* 5 x) (* 1 y)) 2)"), step("t", "cp_saturation", "a", "(>= (+ (* 2 x) (* 1 y)) 2)", "", HOLDS))
+    for name, clause, argument, due in (
+            ("plain", "(>= (* 1 x) 0)", "x", HOLDS), ("negated", "(>= (* 1 (- 1 x)) 0)", "(- 1 x)", HOLDS), ("bare", "(>= x 0)", "x", HOLDS), ("with_another_constant", "(>= (* 1 x) 2)", "x", 36),
+            ("with_another_coefficient", "(>= (* -1 x) 0)", "x", 34)):
+        yield read("unreachable_no_by_a_literal_" + name, step("t", "cp_literal", "", clause, argument, due))
+    for constant, refuted in ((2, True), (1, False)):
+        general, normalized = "(>= x %d)" % constant, "(>= (* 1 x) %d)" % constant
+        equation = step("n", "cp_normalize", "", "(= %s %s)" % (general, normalized), "", HOLDS)
+        yield read("unreachable_no_by_a_normalization_to_%d" % constant, given("a", general), equation)
+        yield read("unreachable_%sby_a_transfer_to_%d" % ("" if refuted else "no_", constant), given("a", general), equation, step("t", "cp_transfer", "a n", normalized, "", HOLDS), refuted=refuted)
+        yield read("unreachable_no_by_a_transfer_to_%d_of_a_refused_step" % constant, step("a", "cp_literal", "", general, "x", 36), equation, step("t", "cp_transfer", "a n", normalized, "", PLAIN))
+        yield read("unreachable_%sby_a_part_%d" % ("" if refuted else "no_", constant), given("a", "(and (>= 0 0) %s)" % normalized),
+                   step("t", "cp_part", "a", normalized, "1", HOLDS), refuted=refuted)
+    yield read("unreachable_no_by_a_transfer_to_what_is_not_read", given("a", "(<= 2 x)"), step("n", "cp_normalize", "", "(= (<= 2 x) (>= x 2))", "", HOLDS),
+               step("t", "cp_transfer", "a n", "(>= x 2)", "", HOLDS))
+    yield read("unreachable_no_by_a_part_that_is_not_taken", given("a", "(and (>= (* 1 x) 2) (>= 0 0))"),
+               step("t", "cp_part", "a", "(>= 0 0)", "1", HOLDS), step("u", "cp_part", "a", "(>= (* 1 x) 2)", "1", 41))
+    yield read("unreachable_no_by_a_part_of_no_statement", given("a", "(and (>= (* 1 x) 2) x)", False), step("t", "cp_part", "a", "(>= (* 1 x) 2)", "0", PLAIN))
+    yield read("unreachable_by_the_first_of_many", given("a", "(>= (* 1 x) 2)"), given("b", "(>= x 2)"), step("t", "cp_part", "a", "x", "0", 41), given("c", "(>= (* 1 x) 1)"), refuted=True)
+    yield read("unreachable_by_the_last_of_many", given("a", "(>= (* 1 x) 1)"), given("b", "(>= x 2)"), step("t", "cp_part", "a", "x", "0", 41), given("c", "(>= (* 1 x) 2)"), refuted=True)
+    yield read("unreachable_by_one_variable_in_each_line", *(given("a%d" % place, "(>= (+ (* 1 x) (* -1 y)) %d)" % (place - 1)) for place in range(3)), given("b", "(>= (* 1 x) 2)"), refuted=True)
+    yield read("unreachable_no_by_any_of_many", *(given("a%d" % place, "(>= (+ (* %d x) (* -1 y)) %d)" % (place, place)) for place in range(40)))
+    yield read("the_request", given("a", "(>= (+ (* 2 x) (* 1 y)) 4)"), refuted=True)
 
 
 # ---------------------------------------------------------------- words, blanks, ids
@@ -724,5 +833,5 @@ def limits():
 
 def vectors():
     """All of them."""
-    for group in (document, refusals, answers, statements, premises, links, refutations, words, limits):
+    for group in (document, refusals, answers, statements, premises, links, greatest, refutations, unreachable_steps, words, limits):
         yield from group()

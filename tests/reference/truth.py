@@ -1,4 +1,4 @@
-"""What `holds` and `refuted` claim, tried under every 0-1 assignment (document 01, section 5, "Truth"; document 02, No. 1).
+"""What `holds` and `refuted` claim, tried under every 0-1 assignment (document 01, section 5, "Truth"; document 02, No. 1 and No. 6).
 
 What a pol line says is the inequality that the reference derives for it."""
 import itertools
@@ -53,7 +53,8 @@ def assignments(names):
 def claims_are_true(text, report, opb=b""):
     """Whether each line that holds is a statement that is true under each solution of the OPB text that satisfies the
     proof text's own assumptions which are statements, and `refuted` is no lie. The OPB text's solutions are told from
-    its constraints, not from the assumptions that they become.
+    its constraints, not from the assumptions that they become. Where nothing is refuted, each line that holds and is a sum
+    over names has to be true under some assignment, so that no such line is passed over (document 02, No. 6).
 
     None where there are too many variables to try all assignments, or a text is refused.
     """
@@ -72,4 +73,9 @@ def claims_are_true(text, report, opb=b""):
         return False
     solutions = [one for one in assignments(names) if opb_texts.solves(constraints, one)]
     models = [one for one in solutions if all(is_true(term, one) for term in assumed)]
-    return all(is_true(clause[0], one) for clause in held for one in models) and not (lines[-1].endswith("refuted=yes") and models)
+    if not all(is_true(clause[0], one) for clause in held for one in models):
+        return False
+    if lines[-1].endswith("refuted=yes"):
+        return not models
+    sums = [clause[0] for clause in held if reference.named_inequality(clause)]
+    return all(any(is_true(term, one) for one in assignments(names_of(term))) for term in sums)

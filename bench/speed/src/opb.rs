@@ -1,6 +1,6 @@
 //! A plain reader of OPB texts (document 02, No. 1), as one writes it in Rust: recursive descent over the words, constraints as vectors of
 //! summands, a hash map from names to numbers, assumptions as terms, with the same limits and refusals; and the report of a model without a
-//! proof. Nothing here is proved.
+//! proof, which a constraint refutes whose sum cannot reach its constant (No. 6). Nothing here is proved.
 
 use std::collections::HashMap;
 use std::fmt::Write;
@@ -10,6 +10,7 @@ const MAX_NUMBER: i32 = 99_999_999;
 const MAX_NAME: usize = 32;
 const MAX_NODES: usize = 4_096;
 const MAX_ASSUMPTIONS: usize = 512;
+const MAX_SUMMANDS: usize = 512;
 
 const TEXT_TOO_LONG: u8 = 2;
 const BAD_BYTE: u8 = 3;
@@ -38,7 +39,6 @@ pub enum Operator {
 #[derive(Debug)]
 pub enum Term {
     Numeral(i32),
-    #[allow(dead_code, reason = "no report asks which variable it is; the tests do")]
     Variable(usize),
     Application(Operator, Vec<Term>),
 }
@@ -290,12 +290,40 @@ pub fn read(text: &[u8]) -> Result<Model<'_>, Refusal> {
     Reader { text, next: 0, start: 0, nodes: 0, numbers: HashMap::new(), model: Model::default() }.text()
 }
 
-/// Whether a term is `(>= 0 k)`, k at least 1.
-fn is_contradiction(term: &Term) -> bool {
-    match term {
-        Term::Application(Operator::AtLeast, sides) => matches!(sides[..], [Term::Numeral(0), Term::Numeral(1..)]),
-        _ => false,
+/// Variable, whether it is negated, and coefficient of a summand.
+fn literal(product: &Term) -> Option<(usize, bool, i64)> {
+    let Term::Application(Operator::Times, factors) = product else { return None };
+    match &factors[..] {
+        [Term::Numeral(coefficient), Term::Variable(variable)] => Some((*variable, false, (*coefficient).into())),
+        [Term::Numeral(coefficient), Term::Application(Operator::Minus, terms)] => match terms[..] {
+            [_, Term::Variable(variable)] => Some((variable, true, (*coefficient).into())),
+            _ => None,
+        },
+        _ => None,
     }
+}
+
+/// The greatest value of a sum over all 0-1 assignments: for each variable the larger of its plain and its negated total.
+fn greatest(summands: &[Term]) -> i64 {
+    let mut literals: Vec<_> = summands.iter().filter_map(literal).collect();
+    literals.sort_unstable_by_key(|(variable, _, _)| *variable);
+    let of_variable = |literals: &[(usize, bool, i64)]| {
+        let total = |due: bool| literals.iter().filter(|(_, negated, _)| *negated == due).map(|(_, _, k)| k).sum::<i64>();
+        total(false).max(total(true))
+    };
+    literals.chunk_by(|left, right| left.0 == right.0).map(of_variable).sum()
+}
+
+/// Whether an assumption's sum, of at most 512 summands, has a greatest value below its constant.
+fn unreachable(term: &Term) -> bool {
+    let Term::Application(Operator::AtLeast, sides) = term else { return false };
+    let [sum, Term::Numeral(constant)] = &sides[..] else { return false };
+    let summands = match sum {
+        Term::Application(Operator::Plus, summands) => &summands[..],
+        Term::Numeral(_) => &[],
+        product => std::slice::from_ref(product),
+    };
+    summands.len() <= MAX_SUMMANDS && greatest(summands) < i64::from(*constant)
 }
 
 /// The report of an OPB text without a proof: its assumptions are all statements and hold.
@@ -308,7 +336,7 @@ pub fn report(text: &[u8]) -> String {
     for assumption in &model.assumptions {
         writeln!(report, "id={} rule=assume answer=0 plain=yes holds=yes", assumption.id).expect("a string takes every line");
     }
-    let refuted = model.assumptions.iter().any(|assumption| is_contradiction(&assumption.term));
+    let refuted = model.assumptions.iter().any(|assumption| unreachable(&assumption.term));
     let refuted = if refuted { "yes" } else { "no" };
     writeln!(report, "commands={} refused=0 refuted={refuted}", model.assumptions.len()).expect("a string takes every line");
     report

@@ -75,6 +75,26 @@ pub fn small_steps(bytes: usize) -> String {
     out
 }
 
+/// Assumptions of three literals, in every fourth one a literal negated, each with its double behind it: lines that hold. No line's constant is above the
+/// greatest value of its sum, so that each of them is asked whether it refutes, and none does.
+fn held_sums(lines: usize) -> String {
+    let literal = |place: usize, i: usize| {
+        let name = format!("b_weight_{:02}", (place * 3 + i * i) % 40);
+        if i == 1 && place % 4 == 1 { format!("(- 1 {name})") } else { name }
+    };
+    let inequality = |place: usize, by: usize| {
+        let total = sum((0..3).map(|i| (((place + i) % 7 + 1) * by, literal(place, i))));
+        format!("(>= {total} {})", (place % 6 + 1) * by)
+    };
+    let line = |number: usize| match (number / 2, number % 2) {
+        (place, 0) => format!("(assume a{place} {})\n", inequality(place, 1)),
+        (place, _) => {
+            format!("(step t{place} (cl {}) :rule cp_multiplication :premises (a{place}) :args (2))\n", inequality(place, 2))
+        }
+    };
+    (0..lines).map(line).collect()
+}
+
 /// Assumptions of depth 64.
 fn deep() -> String {
     (0..63).map(|i| format!("(assume d{i} {}x{})\n", "(- ".repeat(63), ")".repeat(63))).collect()
@@ -94,6 +114,7 @@ pub fn all() -> Vec<Text> {
         text("small steps, 1 KB", small_steps(1_024)),
         text("small steps, 32 KB", small_steps(32_768)),
         text("140 additions of five summands", additions(140)),
+        text("300 lines that hold, 32 KB", held_sums(300)),
         text("a multiplication of 20 summands, 20 names", multiplication(20, 20, |i| format!("v{i}"))),
         text("a multiplication of 400 summands, 400 names", multiplication(400, 400, |i| format!("v{i}"))),
         text("sums of 512 summands, 16 names", multiplication(512, 16, |i| format!("v{i}"))),
@@ -269,4 +290,20 @@ pub fn pairs() -> Vec<Pair> {
         pair("a model of 22 constraints, 4 pol lines", PIGEONS.into(), PIGEONS_PROOF.into()),
         pair("no model, small steps, 32 KB", String::new(), small_steps(32_768)),
     ]
+}
+
+#[cfg(test)]
+mod tests {
+    use super::held_sums;
+
+    /// All lines of the text hold, none refutes, and the text has 32 KB.
+    #[test]
+    fn lines_that_hold_do_not_refute() {
+        let text = held_sums(300);
+        assert!((32_000..=32_768).contains(&text.len()), "{} bytes", text.len());
+        if oracle::ORIGINAL {
+            let account = oracle::account(text.as_bytes()).expect("it is read");
+            assert!(account.lines.len() == 300 && account.lines.iter().all(|line| line.holds) && !account.refuted);
+        }
+    }
 }

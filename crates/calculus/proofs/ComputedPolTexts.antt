@@ -189,7 +189,7 @@ pols =
     "id=a rule=assume answer=0 plain=yes holds=yes" ∷
     "id=r rule=pol answer=53 plain=no holds=no" ∷
     "id=u rule=pol answer=54 plain=no holds=no" ∷
-    "commands=5 refused=3 refuted=no" ∷ []) ∷
+    "commands=5 refused=3 refuted=yes" ∷ []) ∷
     -- 53 also at a push, where equal literals add up
     ("(assume a (>= (+ (* 99999999 x) (* 1 x)) 0))" ∷
     "(pol p a)" ∷ []) ⟼

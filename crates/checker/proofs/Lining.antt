@@ -9,7 +9,8 @@ use native.Mathlib.Omega.{arith}
 use lib.Dec.{T, ltb, ltb→lt, nltb→le}
 use lib.IntN.{pos}
 use lib.ListN.{length, getD, length-append, List·getD-append}
-use Rattle.calculus.specs.Marks.{Line, lineOf, run, noLine, pick, lineAt, clausesAt, allHold, polAnswer, contradiction, refutedBy, applyRule, plainOf}
+use Rattle.calculus.specs.Greatest.{unreachable}
+use Rattle.calculus.specs.Marks.{Line, lineOf, run, noLine, pick, lineAt, clausesAt, allHold, polAnswer, refutedBy, applyRule, plainOf}
 use Rattle.calculus.specs.Pol.{polResult, givenAnswer, pushedIds}
 use Rattle.calculus.specs.Terms.{Term, num, Command, assume, step, pol, idOf, sameName}
 use Rattle.calculus.specs.Truth.{isStatement}
@@ -215,14 +216,14 @@ module _ {s t w : List ℕ} {n : ℕ} (f : File s t w n) where
   pol-holds k e = rw (line-pol k e) refl
 
 -- ---- refuted
-refuted-append : (ls : List Line) (l : Line) → refutedBy (ls ++ (l ∷ [])) ≡ (refutedBy ls || (l .holds && contradiction (l .clause)))
+refuted-append : (ls : List Line) (l : Line) → refutedBy (ls ++ (l ∷ [])) ≡ (refutedBy ls || (l .holds && unreachable (l .clause)))
 unfolding refutedBy
-refuted-append [] l = or-false (l .holds && contradiction (l .clause))
-refuted-append (m ∷ ls) l = ap (λ (b : Bool). (m .holds && contradiction (m .clause)) || b) (refuted-append ls l) ∙ sym (or-assoc (m .holds && contradiction (m .clause)) (refutedBy ls) (l .holds && contradiction (l .clause)))
+refuted-append [] l = or-false (l .holds && unreachable (l .clause))
+refuted-append (m ∷ ls) l = ap (λ (b : Bool). (m .holds && unreachable (m .clause)) || b) (refuted-append ls l) ∙ sym (or-assoc (m .holds && unreachable (m .clause)) (refutedBy ls) (l .holds && unreachable (l .clause)))
 
 pub refuted-none : (s t w : List ℕ) → refutedBy (commandLines s t w 0) ≡ false
 unfolding refutedBy
 refuted-none s t w = ap refutedBy (lines-none s t w)
 
-pub refuted-more : (s t w : List ℕ) (k : ℕ) → refutedBy (commandLines s t w (suc k)) ≡ (refutedBy (commandLines s t w k) || (commandLine s t w k .holds && contradiction (commandLine s t w k .clause)))
+pub refuted-more : (s t w : List ℕ) (k : ℕ) → refutedBy (commandLines s t w (suc k)) ≡ (refutedBy (commandLines s t w k) || (commandLine s t w k .holds && unreachable (commandLine s t w k .clause)))
 refuted-more s t w k = ap refutedBy (lines-more s t w k) ∙ refuted-append (commandLines s t w k) (commandLine s t w k)

@@ -1,7 +1,7 @@
--- The marks of a file's commands: each is its line's, and a contradiction among the marked lines refutes.
-use mathlib.Core.Path.{_≡_, refl, sym, ap, ap₂, _∙_}
+-- The marks of a file's commands: each is its line's, and an unreachable clause among the marked lines refutes.
+use mathlib.Core.Path.{_≡_, refl, sym, ap, ap₂, subst, _∙_}
 use mathlib.Core.Bool.{Bool, true, false, _&&_, _||_}
-use mathlib.Core.List.{List, [], _∷_, map}
+use mathlib.Core.List.{List, [], _∷_}
 use Prim.Native.Nat.{ℕ, zero, suc, _+_, _-_, _≤_, _<_}
 use native.Mathlib.Decide.{ℕ-discrete}
 use native.Mathlib.Nat.{not-suc-le-zero}
@@ -9,7 +9,8 @@ use native.Mathlib.Omega.{arith}
 use native.Mathlib.Numerals.{add-one}
 use lib.ListN.{length, getD, set, drop}
 use lib.Seq.{drop-cons}
-use Rattle.calculus.specs.Marks.{plainOf, allHold, contradiction, refutedBy}
+use Rattle.calculus.specs.Greatest.{unreachable}
+use Rattle.calculus.specs.Marks.{plainOf, allHold, refutedBy}
 use Rattle.calculus.specs.Pol.{pushedIds}
 use Rattle.calculus.specs.Terms.{Term}
 use Rattle.calculus.specs.Truth.{isStatement}
@@ -19,6 +20,7 @@ use Rattle.matching.specs.Matched.{AllNodes}
 use Rattle.reader.specs.Commands.{wordAt, kindWord, clauseWord, premisesWord, argumentsWord, partAt, polKind, polWordsOf}
 use Rattle.reader.specs.Reading.{Ids}
 use Rattle.links.specs.Steps.{Part}
+use Rattle.marks.specs.Values.{UnreachableIs}
 use Rattle.steps.proofs.Stepping.{part-used, nodes-used}
 use Rattle.checker.specs.Runs.{File, commandLines, commandLine, PushesAre, Marked, allMarked}
 use Rattle.checker.proofs.Answering.{first-more}
@@ -97,11 +99,13 @@ module _ {s t w : List ℕ} {n : ℕ} (f : File s t w n) where
 
     -- whether it refutes
     module _ (marks : List Bool) (m : Marked s t w n marks) where
-      pub refutes-not : getD marks k false ≡ false → false ≡ (commandLine s t w k .holds && contradiction (commandLine s t w k .clause))
-      refutes-not e = sym (ap (λ (b : Bool). b && contradiction (commandLine s t w k .clause)) (sym (m k h) ∙ e))
+      pub refutes-not : getD marks k false ≡ false → false ≡ (commandLine s t w k .holds && unreachable (commandLine s t w k .clause))
+      refutes-not e = sym (ap (λ (b : Bool). b && unreachable (commandLine s t w k .clause)) (sym (m k h) ∙ e))
 
-      pub refutes-is : (r : Bool) → getD marks k false ≡ true → r ≡ contradiction (map (decode s t) (partAt t w k clauseWord)) → r ≡ (commandLine s t w k .holds && contradiction (commandLine s t w k .clause))
-      refutes-is r e q = q ∙ sym (ap₂ (λ (b : Bool) (c : List Term). b && contradiction c) (sym (m k h) ∙ e) (clause-is f k h))
+      pub refutes-is : (r : Bool) {l : List ℕ} → getD marks k false ≡ true → l ≡ partAt t w k clauseWord → UnreachableIs t l r → r ≡ (commandLine s t w k .holds && unreachable (commandLine s t w k .clause))
+      refutes-is r e q U =
+          subst (λ (l : List ℕ). UnreachableIs t l r) q U (record { text = s; n = f .nodes; named = f .named }) (f .commands .each k h .terms)
+          ∙ sym (ap₂ (λ (b : Bool) (c : List Term). b && unreachable c) (sym (m k h) ∙ e) (clause-is f k h))
 
 -- ---- the marks so far
 pub marked-none : (s t w : List ℕ) (marks : List Bool) → Marked s t w 0 marks
@@ -116,15 +120,15 @@ refuted-kept : (s t w : List ℕ) (k n : ℕ) → refutedBy (commandLines s t w 
 refuted-kept s t w k zero e h = let i : 0 ≡ k = omega arith in ap (λ (m : ℕ). refutedBy (commandLines s t w m)) i ∙ e
 refuted-kept s t w k (suc n) e h =
     by-node {i = k} {n = suc n} (omega arith)
-    (λ l. refuted-more s t w n ∙ ap (λ (b : Bool). b || (commandLine s t w n .holds && contradiction (commandLine s t w n .clause))) (refuted-kept s t w k n e (omega arith)))
+    (λ l. refuted-more s t w n ∙ ap (λ (b : Bool). b || (commandLine s t w n .holds && unreachable (commandLine s t w n .clause))) (refuted-kept s t w k n e (omega arith)))
     (λ i. ap (λ (m : ℕ). refutedBy (commandLines s t w m)) (sym i) ∙ e)
 
 module _ (s t w : List ℕ) (k : ℕ) (e : refutedBy (commandLines s t w k) ≡ false) where
-  refuted-one : refutedBy (commandLines s t w (suc k)) ≡ (commandLine s t w k .holds && contradiction (commandLine s t w k .clause))
-  refuted-one = refuted-more s t w k ∙ ap (λ (b : Bool). b || (commandLine s t w k .holds && contradiction (commandLine s t w k .clause))) e
+  refuted-one : refutedBy (commandLines s t w (suc k)) ≡ (commandLine s t w k .holds && unreachable (commandLine s t w k .clause))
+  refuted-one = refuted-more s t w k ∙ ap (λ (b : Bool). b || (commandLine s t w k .holds && unreachable (commandLine s t w k .clause))) e
 
-  pub refuted-found : (n : ℕ) → k < n → true ≡ (commandLine s t w k .holds && contradiction (commandLine s t w k .clause)) → true ≡ refutedBy (commandLines s t w n)
+  pub refuted-found : (n : ℕ) → k < n → true ≡ (commandLine s t w k .holds && unreachable (commandLine s t w k .clause)) → true ≡ refutedBy (commandLines s t w n)
   refuted-found n h q = sym (refuted-kept s t w (suc k) n (refuted-one ∙ sym q) h)
 
-  pub refuted-next : false ≡ (commandLine s t w k .holds && contradiction (commandLine s t w k .clause)) → refutedBy (commandLines s t w (k + 1)) ≡ false
+  pub refuted-next : false ≡ (commandLine s t w k .holds && unreachable (commandLine s t w k .clause)) → refutedBy (commandLines s t w (k + 1)) ≡ false
   refuted-next q = let i : k + 1 ≡ suc k = omega arith in ap (λ (m : ℕ). refutedBy (commandLines s t w m)) i ∙ refuted-one ∙ sym q

@@ -5,8 +5,9 @@ use mathlib.Core.List.{List, [], _∷_, map}
 use Prim.Native.Nat.{ℕ, zero, suc, _≤_, _<_}
 use lib.ListN.{length, getD}
 use Rattle.calculus.specs.Grammar.{got}
+use Rattle.calculus.specs.Greatest.{unreachable}
 use Rattle.calculus.specs.Limits.{polLines, maxPols}
-use Rattle.calculus.specs.Marks.{Line, lineOf, numberOf, plainOf, lineAt, allHold, contradiction, refutedBy, run}
+use Rattle.calculus.specs.Marks.{Line, lineOf, numberOf, plainOf, lineAt, allHold, refutedBy, run}
 use Rattle.calculus.specs.Pol.{polResult, givenClause, givenAnswer, pushedIds}
 use Rattle.calculus.specs.Terms.{Term, PolWord}
 use Rattle.calculus.specs.Words.{Res, ok, bad}
@@ -121,7 +122,7 @@ AnswersAre t w n k before numbers plains = (s : List ℕ) → File s t w n → C
 
 -- whether command k refutes
 abbrev pub RefutesIs : List ℕ → List ℕ → ℕ → List Bool → ℕ → Bool → Type 0
-RefutesIs t w n marks k r = (s : List ℕ) → File s t w n → Marked s t w n marks → r ≡ (commandLine s t w k .holds && contradiction (commandLine s t w k .clause))
+RefutesIs t w n marks k r = (s : List ℕ) → File s t w n → Marked s t w n marks → r ≡ (commandLine s t w k .holds && unreachable (commandLine s t w k .clause))
 
 -- whether one of the first k commands does
 abbrev pub RefutedIs : List ℕ → List ℕ → ℕ → List Bool → ℕ → Bool → Type 0

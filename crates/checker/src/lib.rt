@@ -12,8 +12,8 @@ use links::KIND_WORD;
 use links::PREMISES_WORD;
 use links::part_of;
 use links::word_of;
-use marks::contradiction;
 use marks::is_statement;
+use marks::unreachable;
 use matching::Answer;
 use nodes::wide;
 use nodes::wide_short;
@@ -177,33 +177,6 @@ fn answer_all(
     }
 }
 
-// The answers of all n commands.
-fn answer_commands(
-    nodes: &[u32],
-    commands: &[u16],
-    n: usize,
-    numbers: &mut [u8],
-    plains: &mut [bool],
-)
-    requires { ⌜ Filed (now nodes) (now commands) n × (capacity (now nodes) ≤ maxNodes) ⌝ }
-    requires { ⌜ (n ≤ length (now numbers)) × (n ≤ length (now plains)) ⌝ }
-    ensures { λ _. ⌜ AnswersAre (now (nodes .entry)) (now (commands .entry)) n n (now (numbers .entry)) (now (numbers .exit)) (now (plains .exit)) ⌝ }
-{
-    let mut coeffs = [0i64; ENTRIES];
-    let mut keys = [0u32; ENTRIES];
-    let mut slots = [0u16; SLOTS];
-    answer_all(
-        nodes,
-        commands,
-        n,
-        numbers,
-        plains,
-        &mut coeffs,
-        &mut keys,
-        &mut slots,
-    );
-}
-
 // ---- marks
 // Whether each of the cited premises is marked.
 fn all_hold(marks: &[bool], premises: &[u32]) -> bool
@@ -318,25 +291,45 @@ fn mark_commands(
 }
 
 // ---- refutation
-// Whether command k is marked and its clause is a contradiction.
-fn refutes(nodes: &[u32], commands: &[u16], n: usize, marks: &[bool], k: usize) -> bool
+// Whether command k is marked and its clause is unreachable.
+fn refutes(
+    nodes: &[u32],
+    commands: &[u16],
+    n: usize,
+    marks: &[bool],
+    k: usize,
+    coeffs: &mut [i64],
+    keys: &mut [u32],
+    slots: &mut [u16],
+) -> bool
     requires { ⌜ Filed (now nodes) (now commands) n × (k < n) × (n ≤ length (now marks)) ⌝ }
+    requires { ⌜ Rooms (now nodes) (now coeffs) (now keys) (now slots) ⌝ }
     ensures { λ r. ⌜ RefutesIs (now (nodes .entry)) (now (commands .entry)) n (now (marks .entry)) k r ⌝ }
 {
     if !marks[k] {
         return false;
     }
-    contradiction(nodes, part_of(nodes, commands, k, CLAUSE_WORD))
+    let clause = part_of(nodes, commands, k, CLAUSE_WORD);
+    unreachable(nodes, clause, coeffs, keys, slots)
 }
 
 // Whether one of the n commands does.
-fn refuted_by(nodes: &[u32], commands: &[u16], n: usize, marks: &[bool]) -> bool
+fn refuted_by(
+    nodes: &[u32],
+    commands: &[u16],
+    n: usize,
+    marks: &[bool],
+    coeffs: &mut [i64],
+    keys: &mut [u32],
+    slots: &mut [u16],
+) -> bool
     requires { ⌜ Filed (now nodes) (now commands) n × (n ≤ length (now marks)) ⌝ }
+    requires { ⌜ Rooms (now nodes) (now coeffs) (now keys) (now slots) ⌝ }
     ensures { λ r. ⌜ RefutedIs (now (nodes .entry)) (now (commands .entry)) n (now (marks .entry)) n r ⌝ }
 {
     let mut k = 0;
     while k < n {
-        if refutes(nodes, commands, n, marks, k) {
+        if refutes(nodes, commands, n, marks, k, coeffs, keys, slots) {
             return true;
         }
         k += 1;
@@ -345,7 +338,7 @@ fn refuted_by(nodes: &[u32], commands: &[u16], n: usize, marks: &[bool]) -> bool
 }
 
 // ---- the report
-// Writes the report of a file that is answered: marks, whether it is refuted, then the lines.
+// Writes the report of a file that is answered: marks, whether it is refuted, with the arrays that sums are made in, then the lines.
 fn report_answered(
     text: &[u8],
     nodes: &[u32],
@@ -353,16 +346,20 @@ fn report_answered(
     n: usize,
     numbers: &[u8],
     plains: &[bool],
+    coeffs: &mut [i64],
+    keys: &mut [u32],
+    slots: &mut [u16],
     report: &mut [u8],
 ) -> usize
     requires { ⌜ File (now text) (now nodes) (now commands) n × (minReport ≤ length (now report)) ⌝ }
+    requires { ⌜ Rooms (now nodes) (now coeffs) (now keys) (now slots) ⌝ }
     requires { ⌜ (n ≤ length (now numbers)) × (n ≤ length (now plains)) ⌝ }
     requires { ⌜ AnsweredBy (now text) (now nodes) (now commands) n (now numbers) (now plains) ⌝ }
     ensures { λ r. ⌜ Wrote (now (report .entry)) 0 (reportLines (commandLines (now (text .entry)) (now (nodes .entry)) (now (commands .entry)) n)) (now (report .exit)) r ⌝ }
 {
     let mut marks = [false; MAX_COMMANDS];
     mark_commands(text, nodes, commands, n, plains, &mut marks);
-    let refuted = refuted_by(nodes, commands, n, &marks);
+    let refuted = refuted_by(nodes, commands, n, &marks, coeffs, keys, slots);
     write_report(report, text, commands, n, numbers, plains, &marks, refuted)
 }
 
@@ -373,8 +370,31 @@ fn report_plain(text: &[u8], nodes: &[u32], commands: &[u16], n: usize, report: 
 {
     let mut numbers = [0u8; MAX_COMMANDS];
     let mut plains = [false; MAX_COMMANDS];
-    answer_commands(nodes, commands, n, &mut numbers, &mut plains);
-    report_answered(text, nodes, commands, n, &numbers, &plains, report)
+    let mut coeffs = [0i64; ENTRIES];
+    let mut keys = [0u32; ENTRIES];
+    let mut slots = [0u16; SLOTS];
+    answer_all(
+        nodes,
+        commands,
+        n,
+        &mut numbers,
+        &mut plains,
+        &mut coeffs,
+        &mut keys,
+        &mut slots,
+    );
+    report_answered(
+        text,
+        nodes,
+        commands,
+        n,
+        &numbers,
+        &plains,
+        &mut coeffs,
+        &mut keys,
+        &mut slots,
+        report,
+    )
 }
 
 // Writes the report of what the reader made of a text with pol lines: they are run over a copy of the nodes in a larger table, where their clauses
@@ -423,7 +443,18 @@ fn report_pols(
         &mut keys,
         &mut slots,
     );
-    report_answered(text, &table, commands, n, &numbers, &plains, report)
+    report_answered(
+        text,
+        &table,
+        commands,
+        n,
+        &numbers,
+        &plains,
+        &mut coeffs,
+        &mut keys,
+        &mut slots,
+        report,
+    )
 }
 
 // Reads a text and writes its report.

@@ -1,3 +1,4 @@
 pub mod Arguments
 pub mod Statements
-pub mod Contradictions
+pub mod Values
+pub mod Reaching

@@ -201,7 +201,7 @@ pub enum Summand {
 }
 
 // Negated literal (* c (- 1 x)), plain literal (* c x).
-fn read_summand(nodes: &[u32], t: u32) -> Summand
+pub fn read_summand(nodes: &[u32], t: u32) -> Summand
     requires { ⌜ Node (now nodes) t ⌝ }
     ensures { λ r. ⌜ SummandIs (now (nodes .entry)) t r ⌝ }
 {
@@ -254,7 +254,7 @@ fn read_summands(
 }
 
 // The number of one summand alone, where it is a numeral.
-fn lone_constant(nodes: &[u32], ts: &[u32]) -> Constant
+pub fn lone_constant(nodes: &[u32], ts: &[u32]) -> Constant
     requires { ⌜ ((i : ℕ) → i < length (now ts) → Node (now nodes) (getD (now ts) i 0)) ⌝ }
     ensures { λ r. ⌜ LoneIs (now (nodes .entry)) (now (ts .entry)) r ⌝ }
 {

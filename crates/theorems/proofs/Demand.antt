@@ -1,24 +1,20 @@
 -- Demand 3 of a list of commands: what is marked as holding holds.
-use mathlib.Core.Path.{_≡_, refl, ap, ap₂, subst, _∙_}
+use mathlib.Core.Path.{_≡_, refl}
 use mathlib.Core.Bool.{Bool, true, false, _&&_, _||_}
 use mathlib.Core.List.{List, [], _∷_, _++_}
-use Prim.Native.Nat.{ℕ, zero, suc, _≤_}
-use native.Mathlib.Omega.{arith}
-use lib.Dec.{T, leb→le}
-use lib.IntN.{ℤ, pos, negsuc}
-use Rattle.calculus.specs.Marks.{Line, allHold, polAnswer, applyRule, clausesAt, contradiction, lineAt, lineOf, pick, plainOf, positive, refutedBy, run}
-use Rattle.calculus.specs.Matching.{asConstant, binary}
+use Prim.Native.Nat.{ℕ}
+use lib.Dec.{T}
+use Rattle.calculus.specs.Greatest.{unreachable}
+use Rattle.calculus.specs.Marks.{Line, allHold, polAnswer, applyRule, clausesAt, lineAt, lineOf, pick, plainOf, refutedBy, run}
 use Rattle.calculus.specs.Pol.{givenAnswer, givenClause, pushedIds}
-use Rattle.calculus.specs.Rules.{single}
-use Rattle.calculus.specs.Terms.{Command, Rule, Term, app, assume, cons, sameInteger, ge, nil, num, addition, division, literal, multiplication, normalize, part, pol, saturation, transfer, sameName, step, PolWord}
-use Rattle.calculus.specs.Truth.{Assignment, Models, Satisfies, isStatement, pairOf, truth, truthOp, val, vals}
+use Rattle.calculus.specs.Terms.{Command, Rule, Term, assume, addition, division, literal, multiplication, normalize, part, pol, saturation, transfer, sameName, step, PolWord}
+use Rattle.calculus.specs.Truth.{Assignment, Models, Satisfies, isStatement, truth}
 use Rattle.calculus.specs.Words.{Res, bad, ok}
 use Rattle.calculus.proofs.Booleans.{and-l, and-r}
+use Rattle.theorems.proofs.GreatestSound.{unreachable-none}
 use Rattle.theorems.proofs.NormalizeSound.{normalize-sound}
 use Rattle.theorems.proofs.PolSound.{AllGiven, pol-sound}
-use Rattle.theorems.proofs.Reading.{asConstant-ok, binary-ok, bind-ok, ensure-ok}
-use Rattle.theorems.proofs.RulesSound.{AllSat, addition-sound, division-sound, literal-sound, multiplication-sound, part-sound, saturation-sound, single-ok, transfer-sound}
-use Rattle.calculus.proofs.TermLaws.{sameInteger-eq}
+use Rattle.theorems.proofs.RulesSound.{AllSat, addition-sound, division-sound, literal-sound, multiplication-sound, part-sound, saturation-sound, transfer-sound}
 
 unfoldable pub Held : Assignment → List Line → Type 0
 Held σ [] = Unit {0}
@@ -94,32 +90,10 @@ unfolding Held
 sound cs σ m = run-held σ [] cs tt m
 
 -- the theorem, second half
-no-sat : (σ : Assignment) (k : ℕ) → Satisfies σ (app ge (cons (num (pos 0)) (cons (num (pos (suc k))) nil)) ∷ []) → ⊥
-unfolding Satisfies truth truthOp pairOf vals val
-no-sat σ k s = let h : suc k ≤ 0 = leb→le (suc k) 0 (s .1) in omega arith
-
-positive-ok : (r : Res ℤ) → T (positive r) → (k : ℕ) × (r ≡ ok (pos (suc k)))
-unfolding positive
-positive-ok (ok (pos zero)) t = absurd t
-positive-ok (ok (pos (suc k))) t = (k, refl)
-positive-ok (ok (negsuc k)) t = absurd t
-positive-ok (bad n) t = absurd t
-
-false-sat : (σ : Assignment) (c : List Term) → T (contradiction c) → Satisfies σ c → ⊥
-unfolding contradiction
-false-sat σ c f s =
-    let (k, e) = positive-ok _ f in
-    let (t, h₁, e₁) = bind-ok (single c) _ (pos (suc k)) e in
-    let (p, h₂, e₂) = bind-ok (binary ge t) _ (pos (suc k)) e₁ in
-    let (z, h₃, e₃) = bind-ok (asConstant (p .0)) _ (pos (suc k)) e₂ in
-    let (h₄, e₄) = ensure-ok (sameInteger z (pos 0)) 0 _ (pos (suc k)) e₃ in
-    let d : t ≡ app ge (cons (num (pos 0)) (cons (num (pos (suc k))) nil)) = binary-ok ge t p h₂ ∙ ap₂ (λ (x y : Term). app ge (cons x (cons y nil))) (asConstant-ok (p .0) z h₃ ∙ ap num (sameInteger-eq z (pos 0) h₄)) (asConstant-ok (p .1) (pos (suc k)) e₄) in
-    no-sat σ k (subst (Satisfies σ) (single-ok c t h₁ ∙ ap (λ (x : Term). x ∷ []) d) s)
-
 refuted-lines : (σ : Assignment) (ls : List Line) → Held σ ls → T (refutedBy ls) → ⊥
 unfolding Held refutedBy
 refuted-lines σ [] h t = t
-refuted-lines σ (l ∷ ls) h t = go (l .holds) (contradiction (l .clause)) (h .0) (false-sat σ (l .clause)) (refuted-lines σ ls (h .1)) t
+refuted-lines σ (l ∷ ls) h t = go (l .holds) (unreachable (l .clause)) (h .0) (unreachable-none σ (l .clause)) (refuted-lines σ ls (h .1)) t
   where
     go : (a b : Bool) → (T a → Satisfies σ (l .clause)) → (T b → Satisfies σ (l .clause) → ⊥) → (T (refutedBy ls) → ⊥) → T ((a && b) || refutedBy ls) → ⊥
     go true true f g k t = g tt (f tt)

@@ -7,6 +7,8 @@ pub mod NormalizeSound
 pub mod PolLaws
 pub mod PolSound
 pub mod PolShape
+pub mod GreatestLaws
+pub mod GreatestSound
 pub mod Demand
 pub mod RefusedNumbers
 pub mod Lines

@@ -23,7 +23,7 @@ keep-min x y = go (ltZ y x) (λ t. ltZ-yes t) (λ t. ltZ-no t)
     go true f g = let h : y <ℤ x = f tt in omega (int, min-r x y, min-glb {a = x} {b = y} {c = y} (omega int) (omega int), link (‹ x › ⊖ ‹ y › ⊕ ‹ minZ x y ›))
     go false f g = let h : x ≤ℤ y = g tt in omega (int, min-l x y, min-glb {a = x} {b = y} {c = x} (omega int) h, link (lit 0 ⊕ ‹ minZ x y ›))
 
-opp-opp : (l : Lit) → opp (opp l) ≡ l
+pub opp-opp : (l : Lit) → opp (opp l) ≡ l
 opp-opp l = let p : not (not (l .negated)) ≡ l .negated = Bool·not-not (l .negated) in λ i. record { variable = l .variable; negated = p i }
 
 -- ---- what an entry shares with its opposite
@@ -65,7 +65,7 @@ get-shared E k =
     ∙ sym (get-recoef (shared E) (opp k) E)
 
 -- ---- every literal for its opposite
-flips : List Entry → List Entry
+unfoldable pub flips : List Entry → List Entry
 flips [] = []
 flips (e ∷ E) = entry (opp (e .lit)) (e .coefficient) ∷ flips E
 
@@ -78,12 +78,12 @@ unfolding flips has
 has-flips k [] = refl
 has-flips k (e ∷ E) = ap₂ (λ (c d : Bool). cond c true d) (same-opp k (e .lit)) (has-flips k E)
 
-get-flips : (k : Lit) (E : List Entry) → get k (flips E) ≡ get (opp k) E
+pub get-flips : (k : Lit) (E : List Entry) → get k (flips E) ≡ get (opp k) E
 unfolding flips get
 get-flips k [] = refl
 get-flips k (e ∷ E) = ap₂ (λ (c : Bool) (z : ℤ). cond c (e .coefficient) z) (same-opp k (e .lit)) (get-flips k E)
 
-distinct-flips : (E : List Entry) → Distinct E → Distinct (flips E)
+pub distinct-flips : (E : List Entry) → Distinct E → Distinct (flips E)
 unfolding flips Distinct
 distinct-flips [] d = tt
 distinct-flips (e ∷ E) d = (subst (λ (b : Bool). T (not b)) (sym (has-flips (opp (e .lit)) E ∙ ap (λ (l : Lit). has l E) (opp-opp (e .lit)))) (d .0), distinct-flips E (d .1))

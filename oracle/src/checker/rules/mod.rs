@@ -72,12 +72,22 @@ fn assert_eq(a: &Rc<Term>, b: &Rc<Term>) -> RuleResult {
     }
 }
 
+/// An inequality as it is read: the total of each literal, a variable and whether it is negated, and the constant.
+pub(crate) type Inequality = (Vec<(Rc<Term>, bool, crate::rug::Integer)>, crate::rug::Integer);
+
 /// The original. `rug` is brought into scope under the name by which it is used there.
 #[cfg(not(no_original))]
 pub mod cutting_planes {
     use crate::rug;
 
     include!(concat!(env!("OUT_DIR"), "/cutting_planes.rs"));
+
+    /// What the original's own reader, which it keeps to itself, reads of a term, if it reads it.
+    pub(crate) fn inequality(term: &Rc<Term>) -> Option<super::Inequality> {
+        let (totals, constant) = unwrap_pseudoboolean_inequality(term).ok()?;
+        let totals = totals.into_iter().map(|(literal, total)| (literal.var, literal.negated, total));
+        Some((totals.collect(), constant))
+    }
 }
 
 #[cfg(no_original)]
