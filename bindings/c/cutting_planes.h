@@ -1,7 +1,7 @@
 /* Checks a cutting-planes proof from C: a text of assumptions, steps and pol lines in, a report with a line for each and totals out. The constraints
  * can also come from an OPB text, with the proof text behind it.
  *
- * The library is target/staticlib/libchecker.a, which `rt staticlib checker` writes (x86-64 Linux). It needs nothing but C's memcpy and
+ * The library is target/staticlib/libchecker.a, which `tools/archive` writes (x86-64 Linux). It needs nothing but C's memcpy and
  * memset:
  *
  *     cc program.c -I bindings/c target/staticlib/libchecker.a

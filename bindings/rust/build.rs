@@ -1,4 +1,4 @@
-//! Says where the library is: in the folder that CUTTING_PLANES_LIBRARY names, or where `rt staticlib checker` writes it.
+//! Says where the library is: in the folder that CUTTING_PLANES_LIBRARY names, or where `tools/archive` writes it.
 
 fn main() {
     let written = concat!(env!("CARGO_MANIFEST_DIR"), "/../../target/staticlib");

@@ -1,9 +1,9 @@
 """compare.py [COUNT] [SEED]
 
 Compares the formal definitions with the reference by computation, on the examples of documents 01 and 02,
-COUNT generated texts and a fifth as many of pol lines. Each text becomes a theorem, `reportOf text ≡ the reference's report`, proved by
+COUNT generated texts and a fifth as many of pol lines. Each text becomes a theorem, `report_of text ≡ the reference's report`, proved by
 computing both sides, in a temporary repository that holds copies of the crates, proved already where
-target/ has them so: rt goes by their bytes. Prints what was compared and each text that differs, or
+their out/ has them so: rt goes by their bytes. Prints what was compared and each text that differs, or
 whose computation ended without a verdict (a text of several thousand bytes can be too long for the
 prover); the exit status is 0 only if all agree.
 """
@@ -25,13 +25,13 @@ from reference import report
 ROOT = os.path.join(os.path.dirname(os.path.abspath(__file__)), "..", "..")
 COPIED = ("integer", "calculus")
 ORDER = "integer:\ncalculus: integer\nsample: calculus integer\n"
-HEAD = """use mathlib.Core.Path.{_≡_, refl}
-use mathlib.Core.List.{[], _∷_}
-use Rattle·calculus.specs.Report.{reportOf}
-use Rattle·calculus.proofs.Computing.{computing}
+HEAD = """use Rattle.std.specs.Prelude.{◌≡◌, [], ◌∷◌}
+use mathlib.Core.Path.{refl}
+use Rattle.calculus.specs.Report.{report_of}
+use Rattle.calculus.proofs.Computing.{computing}
 """
 THEOREM = """
-text-%d : reportOf %s ≡ %s
+text-%d : report_of %s ≡ %s
 unfolding computing
 text-%d = refl
 """
@@ -60,14 +60,10 @@ def write(folder, path, content):
 def write_repository(folder, proofs):
     """A repository with copies of the crates and one crate more, which only has the theorems."""
     for crate in COPIED:
-        shutil.copytree(os.path.join(ROOT, "crates", crate), os.path.join(folder, "crates", crate))
-        stamp, library = (os.path.join("target", *parts) for parts in (("stamp", crate), ("rlib", crate + ".rlib")))
-        if os.path.exists(os.path.join(ROOT, stamp)):
-            shutil.copytree(os.path.join(ROOT, library), os.path.join(folder, library))
-            os.makedirs(os.path.join(folder, "target", "stamp"), exist_ok=True)
-            shutil.copy(os.path.join(ROOT, stamp), os.path.join(folder, stamp))
+        shutil.copytree(
+            os.path.join(ROOT, "crates", crate), os.path.join(folder, "crates", crate), ignore=shutil.ignore_patterns("incremental", "must-fail"))
     write(folder, "crates.txt", ORDER)
-    write(folder, "crates/sample/src/lib.rt", "// No function: the theorems stand in proofs/.\n")
+    write(folder, "crates/sample/src/lib.rt", "// No function: the theorems stand in proofs/.\n#![tactic(auto)]\n")
     write(folder, "crates/sample/specs/Lib.antt", "")
     write(folder, "crates/sample/proofs/Lib.antt", "pub mod Sample\n")
     write(folder, "crates/sample/proofs/Sample.antt", proofs)
@@ -76,7 +72,7 @@ def write_repository(folder, proofs):
 def prove(folder):
     """Exit status and output of the prover on one core."""
     run = subprocess.run(
-        ["rt", "check", "sample"], cwd=folder, env=dict(os.environ, RT_JOBS="1", RT_CUT="0"),
+        ["rt", "check", "--jobs", "1"], cwd=os.path.join(folder, "crates", "sample"),
         stdout=subprocess.PIPE, stderr=subprocess.STDOUT, check=False)
     return run.returncode, run.stdout.decode("utf-8", "replace")
 
@@ -125,7 +121,7 @@ def main():
     differing = sorted(set(map(int, re.findall(r"error: `text-(\d+)`", output))))
     for place in differing:
         print("\ntext %d:\n%r\nreference:\n%s" % (place, compared[place], reports[place].decode("ascii")))
-    print("%d differ%s" % (len(differing), " or have no verdict" if "no verdict" in output else ""))
+    print("%d differ%s" % (len(differing), " or have no verdict" if re.search("no verdict|ran out of|outgrew|stopped at", output) else ""))
     if not differing:
         print(output)
     return 1

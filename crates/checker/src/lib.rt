@@ -1,4 +1,6 @@
 // The checker: reads a text, answers its steps, marks its lines, and writes the report.
+#![tactic(auto)]
+
 ghost use Rattle.std.specs.Prelude.{◌≡◌, ◌≤◌, ◌<◌, length, set, take, drop};
 ghost use Rattle.calculus.specs.Clauses.{Sound, SoundBoth};
 ghost use Rattle.calculus.specs.Marks.{number_of, plain_of};
@@ -452,8 +454,7 @@ fn report_text(text: &[u8], nodes: &mut [u32], commands: &mut [u16], report: &mu
 // Checks a text: writes its report into the first bytes of `report` and answers their number. Under refusal 1, where fewer than 65,536
 // bytes of report or 16,384 words of nodes are lent, it writes nothing and answers 0. What stands in the tables before is not read.
 // No assignment that satisfies the text's assumptions falsifies a line that the report marks (demand 3).
-#[unsafe(no_mangle)]
-pub extern "C" fn cutting_planes_check(text: &[u8], nodes: &mut [u32], report: &mut [u8]) -> usize
+pub fn cutting_planes_check(text: &[u8], nodes: &mut [u32], report: &mut [u8]) -> usize
     ensures value { result ≡ length (written (length report.old) (length nodes.old) text.now) }
     ensures report_after { take result report.new ≡ written (length report.old) (length nodes.old) text.now }
     ensures report_unchanged { drop result report.new ≡ drop result report.old }
@@ -529,8 +530,7 @@ fn report_both(
 
 // Checks an OPB text and the proof text behind it, as `cutting_planes_check` checks a text; with an empty OPB text it writes the same bytes.
 // No solution of the OPB text that satisfies the proof text's own assumptions that are statements falsifies a line that the report marks (02, No. 1).
-#[unsafe(no_mangle)]
-pub extern "C" fn cutting_planes_check_opb(
+pub fn cutting_planes_check_opb(
     opb: &[u8],
     text: &[u8],
     nodes: &mut [u32],

@@ -1,19 +1,35 @@
 // The program: the report of the text on standard input goes to standard output; with `--opb FILE`, that of the OPB text in the file and the text behind it.
+#![tactic(auto)]
+
 ghost use Rattle.std.specs.Prelude.{◌≤◌, length};
 ghost use Rattle.cutting_planes.specs.Inputs.{Stored, Within};
 
 use checker::{REPORT_BYTES, cutting_planes_check, cutting_planes_check_opb};
 use lexer::same;
-use libc::{STDERR_FILENO, STDIN_FILENO, STDOUT_FILENO};
 use reader::NODE_WORDS;
+use std::env::{Env, FillError};
+use std::fmt::InlineText;
+use std::fs::File;
+use std::io::{Error, Print, Read};
+use std::os::fd::AsRawFd;
+use std::str::from_utf8;
 
 // One byte more than a text may have: a longer one is refused whatever follows.
 const TEXT_BYTES: usize = 32769;
+
+// The bytes of one read.
+const CHUNK_BYTES: usize = 4096;
 
 // The bytes of the longest path, and of the option.
 const PATH_BYTES: usize = 4096;
 
 const OPTION_BYTES: usize = 5;
+
+// Room for the system's text of an error.
+const ERROR_BYTES: usize = 96;
+
+// The descriptor of standard input.
+const STDIN_FILENO: i32 = 0;
 
 // A text: how many bytes of it were stored, or that a read failed.
 #[derive(Drop)]
@@ -41,17 +57,15 @@ fn append(text: &mut [u8], at: usize, src: &[u8]) -> usize
 }
 
 // Reads from an open file until it ends or text is full. A read that gives fewer bytes is followed by another; one that fails is told.
-fn read_text(file: i32, text: &mut [u8]) -> Input
+fn read_text<F: Read>(file: &mut F, text: &mut [u8]) -> Input
     ensures { Within (length text.old) result }
 {
-    let mut chunk = io::buffer();
+    let mut chunk = [0u8; CHUNK_BYTES];
     let mut done = 0;
     while done < text.len() {
-        let got = libc::read(file, &mut chunk);
-        if got < 0 {
+        let Ok(more) = file.read(&mut chunk) else {
             return Input::Failed;
-        }
-        let more = io::count(got, &chunk);
+        };
         if more == 0 {
             return Input::Text(done);
         }
@@ -61,99 +75,122 @@ fn read_text(file: i32, text: &mut [u8]) -> Input
 }
 
 // Writes what went wrong to standard error.
-fn complain(what: &[u8]) {
-    io::write_all(STDERR_FILENO, what);
+fn complain(rt: &HostRuntime, what: &[u8]) {
+    let _ = rt.stderr().write_all(what);
 }
 
 // Writes the first bytes of a report to standard output.
-fn print(report: &[u8]) {
-    if !io::write_all(STDOUT_FILENO, report) {
-        complain(b"cutting_planes: the report cannot be written\n");
+fn print(rt: &HostRuntime, report: &[u8]) {
+    if rt.stdout().write_all(report).is_err() {
+        complain(rt, b"cutting_planes: the report cannot be written\n");
     }
 }
 
 // Writes the report of the text to standard output.
-fn put_report(text: &[u8]) {
+fn put_report(rt: &HostRuntime, text: &[u8]) {
     let mut nodes = [0u32; NODE_WORDS];
     let mut report = [0u8; REPORT_BYTES];
     let size = cutting_planes_check(text, &mut nodes, &mut report);
-    print(&report[0..size]);
+    print(rt, &report[0..size]);
 }
 
 // Writes the report of the OPB text and the text behind it to standard output.
-fn put_report_opb(opb: &[u8], text: &[u8]) {
+fn put_report_opb(rt: &HostRuntime, opb: &[u8], text: &[u8]) {
     let mut nodes = [0u32; NODE_WORDS];
     let mut report = [0u8; REPORT_BYTES];
     let size = cutting_planes_check_opb(opb, text, &mut nodes, &mut report);
-    print(&report[0..size]);
+    print(rt, &report[0..size]);
 }
 
 // The report of the text on standard input.
-fn check_input() {
+fn check_input(rt: &HostRuntime) {
     let mut text = [0u8; TEXT_BYTES];
-    match read_text(STDIN_FILENO, &mut text) {
-        Input::Text(size) => put_report(&text[..size]),
-        Input::Failed => complain(b"cutting_planes: standard input cannot be read\n"),
+    match read_text(&mut rt.stdin(), &mut text) {
+        Input::Text(size) => put_report(rt, &text[..size]),
+        Input::Failed => complain(rt, b"cutting_planes: standard input cannot be read\n"),
     }
 }
 
 // The report of the OPB text and of that on standard input behind it.
-fn check_behind(opb: &[u8]) {
+fn check_behind(rt: &HostRuntime, opb: &[u8]) {
     let mut text = [0u8; TEXT_BYTES];
-    match read_text(STDIN_FILENO, &mut text) {
-        Input::Text(size) => put_report_opb(opb, &text[..size]),
-        Input::Failed => complain(b"cutting_planes: standard input cannot be read\n"),
+    match read_text(&mut rt.stdin(), &mut text) {
+        Input::Text(size) => put_report_opb(rt, opb, &text[..size]),
+        Input::Failed => complain(rt, b"cutting_planes: standard input cannot be read\n"),
     }
 }
 
 // The report of the OPB text in an open file and of the text on standard input.
-fn check_file(file: i32) {
+fn check_file(rt: &HostRuntime, mut file: File) {
     let mut opb = [0u8; TEXT_BYTES];
-    match read_text(file, &mut opb) {
-        Input::Text(size) => check_behind(&opb[..size]),
-        Input::Failed => complain(b"cutting_planes: the OPB file cannot be read\n"),
+    match read_text(&mut file, &mut opb) {
+        Input::Text(size) => check_behind(rt, &opb[..size]),
+        Input::Failed => complain(rt, b"cutting_planes: the OPB file cannot be read\n"),
     }
 }
 
-// Opens the file that the second argument names.
-fn check_opb() {
+// Writes to standard error that the OPB file cannot be opened, and why.
+fn complain_of(rt: &HostRuntime, why: &str) {
+    complain(rt, b"cutting_planes: the OPB file cannot be opened: ");
+    complain(rt, why.as_bytes());
+    complain(rt, b"\n");
+}
+
+// The same with the system's text of an error, which std has with a number behind it.
+fn fail(rt: &HostRuntime, error: Error) {
+    let text = InlineText::<ERROR_BYTES>::of(error);
+    match text.as_str().split_once(" (os error ") {
+        Some((words, _)) => complain_of(rt, words),
+        None => complain_of(rt, text.as_str()),
+    }
+}
+
+// Opens the file that the second argument names. std takes a path only as text.
+fn check_opb(rt: &HostRuntime) {
     let mut path = [0u8; PATH_BYTES];
-    let size = os::arg(2, &mut path);
+    let size = rt.arg(2, &mut path).unwrap_or(0);
     if size == 0 {
-        complain(b"cutting_planes: the OPB file's name is empty or too long\n");
+        complain(
+            rt,
+            b"cutting_planes: the OPB file's name is empty or too long\n",
+        );
         return;
     }
-    let file = os::open_read(&path[..size]);
-    if file < 0 {
-        os::fail(b"cutting_planes: the OPB file cannot be opened");
+    let Ok(name) = from_utf8(&path[..size]) else {
+        complain_of(rt, "its name is not UTF-8");
         return;
+    };
+    match File::open(rt, name) {
+        // a file that is opened in the place of standard input: there is none to read the proof from
+        Ok(file) if file.as_raw_fd() == STDIN_FILENO => {
+            complain(rt, b"cutting_planes: standard input cannot be read\n");
+        }
+        Ok(file) => check_file(rt, file),
+        Err(error) => fail(rt, error),
     }
-    // a file that is opened in the place of standard input: there is none to read the proof from
-    if file == STDIN_FILENO {
-        complain(b"cutting_planes: standard input cannot be read\n");
-        return;
-    }
-    check_file(file);
 }
 
 // Whether the first argument is `--opb`.
-fn is_option() -> bool {
+fn is_option(rt: &HostRuntime) -> bool {
     let mut option = [0u8; OPTION_BYTES];
-    let size = os::arg(1, &mut option);
+    let size = rt.arg(1, &mut option).unwrap_or(0);
     same(&option, 0, size, b"--opb", 0, OPTION_BYTES)
 }
 
-fn main() {
-    let count = os::arg_count();
-    if count < 2 {
-        check_input();
+// Whether there is an argument in this place, of whatever length.
+fn has_argument(rt: &HostRuntime, place: usize) -> bool {
+    let mut front = [0u8; 1];
+    !matches!(rt.arg(place, &mut front), Err(FillError::NotPresent))
+}
+
+fn main(rt: HostRuntime) {
+    if !has_argument(&rt, 1) {
+        check_input(&rt);
         return;
     }
-    if count == 3 {
-        if is_option() {
-            check_opb();
-            return;
-        }
+    if has_argument(&rt, 2) && !has_argument(&rt, 3) && is_option(&rt) {
+        check_opb(&rt);
+        return;
     }
-    complain(b"usage: cutting_planes [--opb FILE] < PROOF\n");
+    complain(&rt, b"usage: cutting_planes [--opb FILE] < PROOF\n");
 }

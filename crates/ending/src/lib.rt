@@ -1,5 +1,7 @@
 // The end of a pol line (02, No. 2): of the one entry of its stack zeros are left out, names are put in byte order, and what is left becomes the words
 // of summands. The entries are put together at the beginning of the arrays, where the first premise of a rule stands.
+#![tactic(auto)]
+
 ghost use Rattle.std.specs.Prelude.{◌≡◌, ◌+◌, ◌^◌, ◌≤◌, ◌<◌, pos, nat_abs, length};
 ghost use Rattle.std.proofs.Math.Seq.{slice};
 ghost use Rattle.integer.specs.Integers.{Within};

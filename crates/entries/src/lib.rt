@@ -1,9 +1,11 @@
 // Entries as structs, as the Rust has them: one entry is lent to be negated, and so is a whole sum (01, section 4).
+#![tactic(auto)]
+
 ghost use Rattle.std.specs.Prelude.{map, ◌≡◌};
 ghost use Rattle.entries.specs.Entries.{negated, Turns, AllTurn};
 
 // A coefficient, a variable's number, and whether the literal is negated.
-#[derive(Drop)]
+#[derive(Clone, Copy)]
 pub struct Entry {
     pub coefficient: i64,
     pub variable: u32,

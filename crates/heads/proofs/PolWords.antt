@@ -1,6 +1,6 @@
 -- Each case of the words of pol lines, from the token that the code has.
 use mathlib.Core.Path.{◌≡◌, refl, sym, subst, ◌∙◌}
-use mathlib.Core.Bool.{Bool, true, false, and_true}
+use mathlib.Core.Bool.{Bool, true, false, and-true}
 use mathlib.Core.List.{List, [], ◌∷◌}
 use Prim.Native.Nat.{ℕ, zero, suc, ◌+◌, ◌-◌, ◌≤◌, ◌<◌}
 use native.Mathlib.Omega.{arith}
@@ -30,7 +30,7 @@ module _ (s : List ℕ) (f t b : ℕ) (h : f < t) (l : t ≤ length s) where
   byte_one n =
       let u : suc f ≡ t = omega arith in
       let z : slice (suc f) t s ≡ [] = rw (u, slice_empty t s) in
-      rw (slice-cons f t s 0 h l, z, and_true (eqb b (get_or s f 0)))
+      rw (slice-cons f t s 0 h l, z, and-true (eqb b (get_or s f 0)))
 
 -- ---- the word that a name is
 module _ (s : List ℕ) (p t : ℕ) where

@@ -1,7 +1,7 @@
 -- What each word makes of the stack, from what the function for it answers.
-use mathlib.Core.Path.{◌≡◌, refl, sym, ap, ◌∙◌}
+use mathlib.Core.Path.{◌≡◌, refl, sym, subst, ap, ◌∙◌}
 use mathlib.Core.Bool.{Bool, true, false, cond}
-use mathlib.Core.List.{List, [], ◌∷◌, map}
+use mathlib.Core.List.{List, ◌∷◌, map}
 use Prim.Native.Nat.{ℕ, suc, ◌+◌, ◌-◌, ◌≤◌, ◌<◌}
 use native.Mathlib.Decide.{dec_lt}
 use native.Mathlib.Omega.{arith}
@@ -277,7 +277,7 @@ module _ {s t y : List ℕ} {cs : List ℤ} {ks sl : List ℕ} {m c₀ d : ℕ} 
     literal-held n H k a h = rw literal-stack (go (dec_lt k m))
       where
         go : Dec (k < m) → (c : Bool) × T (held_in (record { variable = decode s u k; negated = c }) (axiom_of x b ∷ stack_of (decode s t) cs ks d))
-        go (yes q) = let g = H k a q in (g.0, rw (decode-kept R.table grown.kept s k q) (or_right (has (record { variable = decode s t k; negated = g.0 }) (axiom_of x b).sum) (held_in (record { variable = decode s t k; negated = g.0 }) (stack_of (decode s t) cs ks d)) g.1))
+        go (yes q) = let g = H k a q in (g.0, subst (λ (w : Term). T (held_in (record { variable = w; negated = g.0 }) (axiom_of x b ∷ stack_of (decode s t) cs ks d))) (sym (decode-kept R.table grown.kept s k q)) (or_right (has (record { variable = decode s t k; negated = g.0 }) (axiom_of x b).sum) (held_in (record { variable = decode s t k; negated = g.0 }) (stack_of (decode s t) cs ks d)) g.1))
         go (no q) = (b, axiom-holds (record { variable = decode s u k; negated = b }) x (stack_of (decode s t) cs ks d) (ap (decode s u) (N.new k (omega arith) h) ∙ name-is))
 
     pub literal_done : LiteralDone s t u z b x cs ks m d ds ls sl (record { number = 0; nodes = l; entries = d + 1 })

@@ -1,4 +1,6 @@
 // Pol lines, run word by word (02, No. 2): what a line leaves becomes nodes behind those of the file.
+#![tactic(auto)]
+
 ghost use Rattle.std.specs.Prelude.{◌≡◌, false, ◌+◌, ◌-◌, ◌≤◌, ◌<◌, length};
 ghost use Rattle.std.proofs.Math.Seq.{slice};
 ghost use Rattle.integer.specs.Integers.{Within};

@@ -6,7 +6,7 @@ use Prim.Native.Nat.{ℕ, zero, suc, ◌+◌, ◌-◌, ◌≤◌, ◌<◌, max}
 use native.Mathlib.Numerals.{add-one}
 use native.Mathlib.Omega.{arith}
 use lib.ListN.{length, get_or, take, drop}
-use lib.Seq.{drop-cons, get_or-take, get_or_drop, take-add, drop_at, length-take-le, slice, length-slice}
+use lib.Seq.{drop-cons, get_or-take, get_or-drop, take-add, drop_at, length-take-le, slice, length-slice}
 use Rattle.calculus.specs.Terms.{Term, Terms, nil, cons, listed}
 use Rattle.nodes.specs.Nodes.{plus_kind, child_base, kind_at, first_at, second_at, children_at, decode, Below, Node}
 use Rattle.nodes.proofs.Tables.{children-length, children-room, below_at}
@@ -84,7 +84,7 @@ module _ {all : Terms → Bool} {t : List ℕ} {from to k : ℕ} (L : Left all t
   left_at : get_or (slice from to t) (k - from) 0 ≡ get_or t k 0
   left_at =
       let e : from + (k - from) ≡ k = omega (arith, L.begun) in
-      get_or_drop from (take to t) (k - from) 0 ∙ rw e (get_or-take to t k 0 h)
+      get_or-drop from (take to t) (k - from) 0 ∙ rw e (get_or-take to t k 0 h)
 
   pub left-node : AllNodes t (slice from to t) → Node t (get_or t k 0)
   left-node A = rw left_at at (A (k - from) left-inside)

@@ -1,4 +1,6 @@
 // The marks of a line over the node table: whether a term is a statement (01, section 5), and whether a clause is unreachable (02, No. 6).
+#![tactic(auto)]
+
 ghost use Rattle.std.specs.Prelude.{◌≡◌, List, ℕ, ◌+◌, ◌≤◌, ◌<◌, length};
 ghost use Rattle.std.proofs.Math.Seq.{slice};
 ghost use Rattle.integer.specs.Integers.{Within};

@@ -6,7 +6,7 @@ use native.Mathlib.Decide.{dec_lt}
 use native.Mathlib.Omega.{arith}
 use lib.IntN.{ℤ, pos}
 use lib.ListN.{length, get_or, set, take, drop, length-drop, length-set}
-use lib.Seq.{get_or-set_same, get_or-set_other, get_or-take, get_or_drop, take-set-lt, take-set-le, drop-set-add, drop-set-lt, length-take-le}
+use lib.Seq.{get_or-set_same, get_or-set_other, get_or-take, get_or-drop, take-set-lt, take-set-le, drop-set-add, drop-set-lt, length-take-le}
 use Rattle.matching.specs.Places.{max_entries, part, placed, Put1, Apart, Others}
 
 put1 : {A : Type 0} (z : A) (l : List A) (i : ℕ) (a : A) → i < length l → Put1 z l i a (set l i a)
@@ -16,7 +16,7 @@ put1 z l i a h = record { new = get_or-set_same l i a z h; old = λ m f. get_or-
 module _ {A : Type 0} (a w : ℕ) (l : List A) where
   pub part-get : (z : A) (i : ℕ) → i < w → get_or (part a w l) i z ≡ get_or l (a + i) z
   unfolding part
-  part-get z i h = get_or-take w (drop a l) i z h ∙ get_or_drop a l i z
+  part-get z i h = get_or-take w (drop a l) i z h ∙ get_or-drop a l i z
 
   pub part_length : a + w ≤ length l → length (part a w l) ≡ w
   unfolding part

@@ -1,4 +1,6 @@
 // Matching terms of the node table as the Rust's `match_term!` does: numerals, `(op a b)`, `(- 1 v)`, sums; and literals as keys.
+#![tactic(auto)]
+
 ghost use Rattle.std.specs.Prelude.{◌≡◌, not, ◌&&◌, List, [], ◌∷◌, ℕ, ◌+◌, ◌*◌, ◌/◌, ◌≤◌, ◌<◌, length};
 ghost use Rattle.calculus.specs.Matching.{is_name};
 ghost use Rattle.nodes.specs.Nodes.{plus_kind, max_capacity, first_at, decode, Node};

@@ -7,7 +7,7 @@ use native.Mathlib.Omega.{arith}
 use borrow.Author.Tests.{eq-eqb, ne_eqb, leb-true}
 use lib.Dec.{leb}
 use lib.ListN.{length, get_or, take, drop, drop_of_length-le}
-use lib.Seq.{slice, drop-cons, drop_drop}
+use lib.Seq.{slice, drop-cons, drop-drop}
 use Rattle.calculus.specs.Bytes.{byte, class_of, is_blank, is_digit, is_letter, in_word}
 use Rattle.calculus.specs.Tokens.{span}
 use Rattle.calculus.specs.OpbWords.{in_opb_word, opb_word_of, opb_judged, opb_from, opb_behind, inside_at}
@@ -49,7 +49,7 @@ digit-in-word b e = go (leb (byte "0") b) (leb b (byte "9")) refl refl e
 -- ---- the end of a word: behind its first byte, its digits, and what follows them
 pub word-whole : (s : List ℕ) (f d t : ℕ) → f < length s → in_opb_word (get_or s f 0) ≡ true → d ≡ f + 1 + span is_digit (drop (f + 1) s) → t ≡ d + span in_opb_word (drop d s) → t ≡ f + span in_opb_word (drop f s)
 word-whole s f d t h b p q =
-    let e : drop (span is_digit (drop (f + 1) s)) (drop (f + 1) s) ≡ drop d s = rw (drop_drop (span is_digit (drop (f + 1) s)) (f + 1) s, ← p) in
+    let e : drop (span is_digit (drop (f + 1) s)) (drop (f + 1) s) ≡ drop d s = rw (drop-drop (span is_digit (drop (f + 1) s)) (f + 1) s, ← p) in
     let r : span in_opb_word (drop (f + 1) s) ≡ span is_digit (drop (f + 1) s) + span in_opb_word (drop d s) = rw (← e) (run_on is_digit in_opb_word digit-in-word (drop (f + 1) s)) in
     omega (arith, span-go in_opb_word s f h b)
 
@@ -57,7 +57,7 @@ word-whole s f d t h b p q =
 module _ (s : List ℕ) (at f : ℕ) (start : f ≡ at + span is_blank (drop at s)) where
   behind : inside_at s at ≡ opb_from f (drop f s)
   unfolding inside_at opb_behind
-  behind = rw (drop_drop (span is_blank (drop at s)) at s, ← start)
+  behind = rw (drop-drop (span is_blank (drop at s)) at s, ← start)
 
   pub token_end : length s ≤ f → opb_token_of s (End f) ≡ inside_at s at
   unfolding opb_token_of opb_from

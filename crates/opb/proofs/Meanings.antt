@@ -1,6 +1,6 @@
 -- Laws of what a word's bytes mean.
 use mathlib.Core.Path.{◌≡◌, refl, sym, ap, ◌∙◌}
-use mathlib.Core.Bool.{Bool, true, false, cond, ◌&&◌, and_false}
+use mathlib.Core.Bool.{Bool, true, false, cond, ◌&&◌, and-false}
 use mathlib.Core.Logic.{◌⊎◌, inl, inr}
 use mathlib.Core.List.{List, [], ◌∷◌}
 use Prim.Native.Nat.{ℕ, zero, suc, ◌+◌, ◌-◌, ◌≤◌, ◌<◌}
@@ -74,7 +74,7 @@ module _ (s : List ℕ) (n t d : ℕ) (h : n < t) (l : t ≤ length s) (x : get_
   pub variable-broken : d < t → is_variable (slice n t s) ≡ false
   variable-broken g =
       let z : digits (slice (suc n) t s) ≡ false = rw tail (digits-beyond (drop (n + 1) s) (t - (n + 1)) (omega arith) (rw length-drop (omega arith))) in
-      split ∙ rw (z, and_false (digit_first (slice (suc n) t s)))
+      split ∙ rw (z, and-false (digit_first (slice (suc n) t s)))
 
   pub variable-bare : t - n < 2 → is_variable (slice n t s) ≡ false
   unfolding digit_first
@@ -86,7 +86,7 @@ module _ (s : List ℕ) (n t d : ℕ) (h : n < t) (l : t ≤ length s) (x : get_
   pub variable-long : max_name < t - n → is_variable (slice n t s) ≡ false
   variable-long g =
       let z : leb (suc (length (slice (suc n) t s))) max_name ≡ false = lt-leb (suc (length (slice (suc n) t s))) max_name (rw long (omega arith)) in
-      split ∙ rw (z, and_false (digits (slice (suc n) t s)), and_false (digit_first (slice (suc n) t s)))
+      split ∙ rw (z, and-false (digits (slice (suc n) t s)), and-false (digit_first (slice (suc n) t s)))
 
   pub variable-good : t ≤ d → 2 ≤ t - n → t - n ≤ max_name → is_variable (slice n t s) ≡ true
   variable-good g b m =
@@ -249,7 +249,7 @@ module _ (s : List ℕ) (f t : ℕ) (h : f < t) (l : t ≤ length s) where
 
     pub word-bare : is_digit (get_or s f 0) ≡ false → d ≤ f + 1 → opb_word_of (slice f t s) ≡ other_of (slice f t s)
     unfolding opb_word_of numeral_first plus_first
-    word-bare k g = rw (slice-cons f t s 0 h l, k, behind-none g, and_false (eqb (get_or s f 0) (byte "-")), and_false (eqb (get_or s f 0) (byte "+")))
+    word-bare k g = rw (slice-cons f t s 0 h l, k, behind-none g, and-false (eqb (get_or s f 0) (byte "-")), and-false (eqb (get_or s f 0) (byte "+")))
 
     pub word-other : is_digit (get_or s f 0) ≡ false → (get_or s f 0 ≡ byte "+" → ⊥) → (get_or s f 0 ≡ byte "-" → ⊥) → opb_word_of (slice f t s) ≡ other_of (slice f t s)
     unfolding opb_word_of numeral_first plus_first

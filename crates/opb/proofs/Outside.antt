@@ -7,7 +7,7 @@ use native.Mathlib.Nat.{not-suc-le-zero}
 use native.Mathlib.Omega.{arith}
 use lib.Dec.{eqb}
 use lib.ListN.{length, get_or, take, drop, drop_of_length-le, length-drop}
-use lib.Seq.{drop-cons, drop_drop, get_or_drop}
+use lib.Seq.{drop-cons, drop-drop, get_or-drop}
 use Rattle.calculus.specs.Bytes.{byte, class_of, is_blank, opens, closes}
 use Rattle.calculus.specs.Commands.{enough}
 use Rattle.calculus.specs.Words.{Res, ok, bad}
@@ -92,7 +92,7 @@ module _ (go : Constraint → ℕ → OpbRead) (s : List ℕ) (p n c : ℕ) (ks 
 module _ (s : List ℕ) (at p : ℕ) (start : p ≡ at + gap (place_at s at) (drop at s)) where
   outside_from : outside_at s at ≡ opb_from p (drop p s)
   unfolding outside_at opb_behind
-  outside_from = rw (drop_drop (gap (place_at s at) (drop at s)) at s, ← start)
+  outside_from = rw (drop-drop (gap (place_at s at) (drop at s)) at s, ← start)
 
   pub outside-none : p ≡ length s → outside_at s at ≡ ended p
   unfolding opb_from
@@ -106,7 +106,7 @@ module _ (s : List ℕ) (at p : ℕ) (start : p ≡ at + gap (place_at s at) (dr
     not-blank : is_blank (get_or s p 0) ≡ false
     not-blank =
         let l : length (drop at s) ≡ length s - at = length-drop at s in
-        let e : get_or (drop at s) (gap (place_at s at) (drop at s)) 0 ≡ get_or s p 0 = get_or_drop at s (gap (place_at s at) (drop at s)) 0 ∙ rw (← start) in
+        let e : get_or (drop at s) (gap (place_at s at) (drop at s)) 0 ≡ get_or s p 0 = get_or-drop at s (gap (place_at s at) (drop at s)) 0 ∙ rw (← start) in
         rw (← e) (gap-stops (place_at s at) (drop at s) (omega arith))
 
     -- so the token inside a constraint from there on is the one outside

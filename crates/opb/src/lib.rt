@@ -1,4 +1,6 @@
 // The words of an OPB text, and one constraint, judged before it is made: pure functions of the text, but for the summands that the judge stores (02, No. 1).
+#![tactic(auto)]
+
 ghost use Rattle.std.specs.Prelude.{◌≡◌, true, false, cond, not, suc, ◌+◌, ◌*◌, ◌^◌, ◌≤◌, ◌<◌, eqb, pos, length, drop, get_or};
 ghost use Rattle.std.proofs.Math.Seq.{slice};
 ghost use Rattle.calculus.specs.Bytes.{byte, is_digit, class_of, unprintable};
@@ -208,7 +210,7 @@ fn literal(
     digits: usize,
     to: usize,
 ) -> OpbToken
-    requires { (from ≤ name) × (name < to) × (to ≤ length text.now) × (get_or text.now name 0 ≡ byte "x") × (digits ≡ name + 1 + span isDigit (drop (name + 1) text.now)) }
+    requires { (from ≤ name) × (name < to) × (to ≤ length text.now) × (get_or text.now name 0 ≡ byte "x") × (digits ≡ name + 1 + span is_digit (drop (name + 1) text.now)) }
     ensures { Means text.now from to (ensure (is_variable (slice name to text.now)) 5 (ok (literal-word (literal_over negated (slice name to text.now))))) result }
 {
     if digits < to {

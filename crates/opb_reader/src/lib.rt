@@ -1,5 +1,7 @@
 // An OPB text and the proof text behind it into the tables (02, No. 1). Both stand in one string, with the ids of assumptions between them, so that names
 // are found across both texts.
+#![tactic(auto)]
+
 ghost use Rattle.std.specs.Prelude.{◌≡◌, ◌≤◌};
 ghost use Rattle.integer.specs.Integers.{signed};
 ghost use Rattle.calculus.specs.Limits.{max_commands};

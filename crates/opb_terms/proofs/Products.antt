@@ -1,7 +1,7 @@
 -- The summands: a literal, a summand, one of the words, and the loop over all of them.
 use mathlib.Core.Path.{◌≡◌, refl, sym, ap, ◌∙◌}
 use mathlib.Core.Bool.{Bool, true, false, cond}
-use mathlib.Core.List.{List, [], ◌∷◌, ◌++◌, map, map_append}
+use mathlib.Core.List.{List, [], ◌∷◌, ◌++◌, map, map-append}
 use Prim.Native.Nat.{ℕ, suc, ◌+◌, ◌-◌, ◌*◌, ◌≤◌, ◌<◌}
 use native.Mathlib.Omega.{arith}
 use borrow.Author.Tests.{eqb-true}
@@ -199,7 +199,7 @@ module _ {s a t₀ v₀ y₀ : List ℕ} {d : Bool} {q n c : ℕ} (M : Making s 
               wider = omega (arith, I.made.size, P.some);
             };
             last = λ h. rw (back, get_or-set_same v i (r - 1) 0 wide) up;
-            decoded = rw (S, map_append (decode s u) (take i v) ((r - 1) ∷ []), map-kept I.made.grown.table P.grown.kept s (take i v) I.made.below, I.made.decoded, P.decoded, e, turned_more d (summands_of s a i) (summand_at s a i), map_append summand_term (turned_if d (summands_of s a i)) (turned_summand d (summand_at s a i) ∷ []));
+            decoded = rw (S, map-append (decode s u) (take i v) ((r - 1) ∷ []), map-kept I.made.grown.table P.grown.kept s (take i v) I.made.below, I.made.decoded, P.decoded, e, turned_more d (summands_of s a i) (summand_at s a i), map-append summand_term (turned_if d (summands_of s a i)) (turned_summand d (summand_at s a i) ∷ []));
             below = rw S (below-snoc (take i v) (r - 1) (below_more (take i v) I.made.below P.grown.more) under);
           };
         }

@@ -1,4 +1,6 @@
 // The makers of an OPB constraint's nodes: the assumption that it becomes, in the node table (02, No. 1).
+#![tactic(auto)]
+
 ghost use Rattle.std.specs.Prelude.{◌≡◌, [], ◌∷◌, ◌+◌, ◌≤◌, ◌<◌, length};
 ghost use Rattle.std.proofs.Math.Seq.{slice, paste};
 ghost use Rattle.integer.specs.Integers.{signed};

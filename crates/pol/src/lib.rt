@@ -1,4 +1,6 @@
 // Pol lines (02, No. 2): a stack machine over sums. The stack stands behind the three sums of a rule, in the same lent arrays.
+#![tactic(auto)]
+
 ghost use Rattle.std.specs.Prelude.{◌≡◌, ◌+◌, ◌-◌, ◌*◌, ◌≤◌, ◌<◌, length};
 ghost use Rattle.std.proofs.Math.Seq.{slice};
 ghost use Rattle.integer.specs.Integers.{Within, signed};

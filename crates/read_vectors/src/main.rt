@@ -1,125 +1,144 @@
 // Prints what is read of the text on standard input: its refusal in one line; or the counts, then a line for each command, node and
 // child word of the tables.
+#![tactic(auto)]
+
 ghost use Rattle.std.specs.Prelude.{◌≤◌, length};
 ghost use Rattle.calculus.specs.Limits.{max_commands};
 ghost use Rattle.nodes.specs.Nodes.{capacity, max_capacity};
 ghost use Rattle.reader.specs.Commands.{all_words};
 
-use libc::{STDIN_FILENO, STDOUT_FILENO};
 use nodes::child_base;
 use reader::{COMMAND_WORDS, ID_WORDS, NODE_WORDS, Whole, read_file};
+use std::io::Read;
 
 // One byte more than a text may have.
 const TEXT_BYTES: usize = 32769;
 
 // Writes bytes.
-fn put(text: &[u8]) {
-    io::write_all(STDOUT_FILENO, text);
+fn put(rt: &impl Print, text: &[u8]) {
+    let _ = rt.write_all(text);
 }
 
 // Writes a number behind a text.
-fn put_number(before: &[u8], n: u64) {
-    put(before);
-    io::print_decimal(STDOUT_FILENO, n);
+fn put_number(rt: &impl Print, before: &[u8], n: u64) {
+    put(rt, before);
+    let _ = rt.print(n);
 }
 
 // Writes a word behind a blank.
-fn put_word(word: u32) {
-    put_number(b" ", word as u64);
+fn put_word(rt: &impl Print, word: u32) {
+    put_number(rt, b" ", word as u64);
 }
 
 // Writes a word of two bytes behind a blank.
-fn put_short(word: u16) {
-    put_number(b" ", word as u64);
+fn put_short(rt: &impl Print, word: u16) {
+    put_number(rt, b" ", word as u64);
 }
 
 // Writes the words from..to, of two bytes each.
-fn put_words(words: &[u16], from: usize, to: usize)
+fn put_words(rt: &impl Print, words: &[u16], from: usize, to: usize)
     requires { to ≤ length words.now }
 {
     let mut i = from;
     while i < to {
-        put_short(words[i]);
+        put_short(rt, words[i]);
         i += 1;
     }
 }
 
 // A line for each of the k commands: where its id starts and ends before the text's end, its kind and its parts.
-fn put_commands(commands: &[u16], k: usize)
+fn put_commands(rt: &impl Print, commands: &[u16], k: usize)
     requires { (k ≤ max_commands) × (all_words ≤ length commands.now) }
 {
     let mut i = 0;
     while i < k {
-        put(b"command");
-        put_words(commands, 2 * i, 2 * i + 2);
-        put_words(commands, ID_WORDS + 7 * i, ID_WORDS + 7 * i + 7);
-        put(b"\n");
+        put(rt, b"command");
+        put_words(rt, commands, 2 * i, 2 * i + 2);
+        put_words(rt, commands, ID_WORDS + 7 * i, ID_WORDS + 7 * i + 7);
+        put(rt, b"\n");
         i += 1;
     }
 }
 
 // A line for each of the n nodes: its kind and two words.
-fn put_nodes(nodes: &[u32], n: usize)
+fn put_nodes(rt: &impl Print, nodes: &[u32], n: usize)
     requires { (n ≤ capacity nodes.now) × (capacity nodes.now ≤ max_capacity) }
 {
     let mut i = 0;
     while i < n {
-        put(b"node");
-        put_word(nodes[3 * i]);
-        put_word(nodes[3 * i + 1]);
-        put_word(nodes[3 * i + 2]);
-        put(b"\n");
+        put(rt, b"node");
+        put_word(rt, nodes[3 * i]);
+        put_word(rt, nodes[3 * i + 1]);
+        put_word(rt, nodes[3 * i + 2]);
+        put(rt, b"\n");
         i += 1;
     }
 }
 
 // A line for each of the c child words.
-fn put_children(nodes: &[u32], c: usize)
+fn put_children(rt: &impl Print, nodes: &[u32], c: usize)
     requires { (c ≤ capacity nodes.now) × (capacity nodes.now ≤ max_capacity) }
 {
     let mut i = child_base(nodes);
     let end = i + c;
     while i < end {
-        put(b"child");
-        put_word(nodes[i]);
-        put(b"\n");
+        put(rt, b"child");
+        put_word(rt, nodes[i]);
+        put(rt, b"\n");
         i += 1;
     }
 }
 
 // The line of the counts, then those of the commands, the nodes and the child words.
-fn put_tables(nodes: &[u32], commands: &[u16], k: usize, n: usize, c: usize)
+fn put_tables(rt: &impl Print, nodes: &[u32], commands: &[u16], k: usize, n: usize, c: usize)
     requires { (k ≤ max_commands) × (all_words ≤ length commands.now) × (n ≤ capacity nodes.now) × (c ≤ capacity nodes.now) × (capacity nodes.now ≤ max_capacity) }
 {
-    put_number(b"commands=", k as u64);
-    put_number(b" nodes=", n as u64);
-    put_number(b" children=", c as u64);
-    put(b"\n");
-    put_commands(commands, k);
-    put_nodes(nodes, n);
-    put_children(nodes, c);
+    put_number(rt, b"commands=", k as u64);
+    put_number(rt, b" nodes=", n as u64);
+    put_number(rt, b" children=", c as u64);
+    put(rt, b"\n");
+    put_commands(rt, commands, k);
+    put_nodes(rt, nodes, n);
+    put_children(rt, nodes, c);
 }
 
 // The line of a refusal.
-fn put_refusal(number: u8, byte: usize) {
-    put_number(b"refused=", number as u64);
-    put_number(b" byte=", byte as u64);
-    put(b"\n");
+fn put_refusal(rt: &impl Print, number: u8, byte: usize) {
+    put_number(rt, b"refused=", number as u64);
+    put_number(rt, b" byte=", byte as u64);
+    put(rt, b"\n");
 }
 
 // Reads a text into the lent tables and prints what was read.
-fn put_read(text: &[u8], nodes: &mut [u32], commands: &mut [u16]) {
+fn put_read(rt: &impl Print, text: &[u8], nodes: &mut [u32], commands: &mut [u16]) {
     match read_file(text, nodes, commands) {
-        Whole::All(k, n, c, _) => put_tables(nodes, commands, k, n, c),
-        Whole::Refused(number, byte) => put_refusal(number, byte),
+        Whole::All(k, n, c, _) => put_tables(rt, nodes, commands, k, n, c),
+        Whole::Refused(number, byte) => put_refusal(rt, number, byte),
         Whole::Small => {}
     }
 }
 
-fn main() {
+// Reads from an open file until it ends, a read fails or buf is full, and answers how many bytes were read.
+fn read_full<F: Read>(file: &mut F, buf: &mut [u8]) -> usize
+    ensures { result ≤ length buf.new }
+{
+    let mut done = 0;
+    while done < buf.len() {
+        let Ok(more) = file.read(&mut buf[done..]) else {
+            break;
+        };
+        if more == 0 {
+            break;
+        }
+        done += more;
+    }
+    done
+}
+
+fn main(rt: HostRuntime) {
     let mut text = [0u8; TEXT_BYTES];
     let mut nodes = [0u32; NODE_WORDS];
     let mut commands = [0u16; COMMAND_WORDS];
-    let got = io::read_full(STDIN_FILENO, &mut text);
-    put_read(&text[..got], &mut nodes, &mut commands);
+    let got = read_full(&mut rt.stdin(), &mut text);
+    put_read(&rt, &text[..got], &mut nodes, &mut commands);
 }

@@ -1,4 +1,6 @@
-// The reader as C and Rust call it: a text into lent tables, its answer in a number and three words.
+// The reader as `reading_c` exports it: a text into lent tables, its answer in a number and three words.
+#![tactic(auto)]
+
 ghost use Rattle.reading.specs.Answer.{Answers};
 
 use reader::{COMMAND_WORDS, NODE_WORDS, Whole, read_file};
@@ -13,8 +15,7 @@ const TOO_SMALL: usize = 1;
 
 // Reads a text: 0, and the commands, nodes and child words in use; or the number of its refusal, and its byte; or 1, and nothing
 // is written, where one of the tables is too small.
-#[unsafe(no_mangle)]
-pub extern "C" fn cutting_planes_read(
+pub fn cutting_planes_read(
     text: &[u8],
     nodes: &mut [u32],
     commands: &mut [u16],

@@ -6,7 +6,7 @@ use native.Mathlib.Numerals.{add-one}
 use native.Mathlib.Omega.{arith}
 use mathlib.Core.List.{List, [], ◌∷◌, ◌++◌, append_assoc, append-nil}
 use lib.ListN.{length, get_or, set, take, drop, length-append, length-set, take-append-drop}
-use lib.Seq.{length-take-le, set_split, take_at, drop_at, drop-append-add, drop_drop, take-suc, take_all}
+use lib.Seq.{length-take-le, set_split, take_at, drop_at, drop-append-add, drop-drop, take-suc, take_all}
 use Rattle.report.specs.Written.{put, Wrote}
 
 -- ---- what is put
@@ -25,7 +25,7 @@ module _ (d : List ℕ) (at : ℕ) (s : List ℕ) (h : at ≤ length d) where
       ap (λ (k : ℕ). drop (k + length t) (p ++ rest)) (sym head-long) ∙ drop-append-add p rest (length t) in
       let q : drop (length t) rest ≡ drop (at + length (s ++ t)) d =
       let e : at + length s + length t ≡ at + length (s ++ t) = omega (arith, length-append s t) in
-      drop_drop (length t) (at + length s) d ∙ ap (λ (k : ℕ). drop k d) e in
+      drop-drop (length t) (at + length s) d ∙ ap (λ (k : ℕ). drop k d) e in
       ap (λ (x : List ℕ). x ++ t ++ drop (at + length s + length t) (p ++ rest)) a
       ∙ ap (λ (x : List ℕ). p ++ t ++ x) (b ∙ q)
       ∙ ap (λ (x : List ℕ). x ++ drop (at + length (s ++ t)) d) (append_assoc (take at d) s t)

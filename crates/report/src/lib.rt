@@ -1,4 +1,6 @@
 // The report: a line for each command and the totals, or the line of a refused file, in the bytes of a lent slice (01, section 6).
+#![tactic(auto)]
+
 ghost use Rattle.std.specs.Prelude.{◌≡◌, List, [], ◌∷◌, ◌++◌, ◌+◌, ◌*◌, ◌≤◌, ◌<◌, length};
 ghost use Rattle.calculus.specs.Marks.{Line, refused_in, refuted_by};
 ghost use Rattle.calculus.specs.Report.{yes_no, line_text, totals_text, refusal_text, report_lines, min_report};

@@ -1,4 +1,6 @@
 // The rules over sums: addition, multiplication, division, saturation and normalization, over a step in the tables that the reader made.
+#![tactic(auto)]
+
 ghost use Rattle.std.specs.Prelude.{◌≡◌, ◌+◌, ◌*◌, ◌≤◌, ◌<◌, pos, length, get_or};
 ghost use Rattle.integer.specs.Integers.{Within};
 ghost use Rattle.calculus.specs.Normalize.{cp_normalize};
@@ -332,7 +334,7 @@ pub fn cp_addition(
 
 // ---- multiplication, division, saturation: one check over a map of numbers
 // What a rule does to each number of its premise.
-#[derive(Drop)]
+#[derive(Clone, Copy)]
 pub enum By {
     Times(i64),
     Over(i64),

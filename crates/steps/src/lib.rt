@@ -1,4 +1,6 @@
 // The answer of a step of the reader's tables: its rule over the premises' clauses, the arguments and the conclusion.
+#![tactic(auto)]
+
 ghost use Rattle.std.specs.Prelude.{◌≡◌, ◌≤◌, ◌<◌};
 ghost use Rattle.matching.specs.Matched.{AllNodes};
 ghost use Rattle.links.specs.Steps.{Step};

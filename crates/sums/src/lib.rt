@@ -1,5 +1,7 @@
 // Sums: entry lists at places of three lent arrays, written in place. A sum is its coefficients and its keys in order of first appearance, from its place on, with a count;
 // its slots hold for each key over a name where it stands: trusted only where that is below the count and this very key, so they are never cleared.
+#![tactic(auto)]
+
 ghost use Rattle.std.specs.Prelude.{◌≡◌, List, [], map, ℕ, suc, ◌+◌, ◌*◌, ◌≤◌, ◌<◌, length, get_or, pos, ◌+ℤ◌};
 ghost use Rattle.integer.specs.Integers.{Within};
 ghost use Rattle.calculus.specs.Sums.{pb_sum, summands, keep, max_summands};

@@ -11,7 +11,7 @@ use Rattle.calculus.specs.Bytes.{bytes}
 use Rattle.calculus.specs.Commands.{enough, new_id, premise, premises, premises_at, args_at, rule_among, rule_of, on_rule, rule_at, assume_at, step_at, command_at, Read, whole, refused, begin, halt, on_lead, lead_at, on_command, on_read, commands, read_behind, read_file, pol_at, pol_or}
 use Rattle.calculus.specs.Grammar.{Reads, got, off, then, same_mark, expect, name_at, close_at, term, items}
 use Rattle.calculus.specs.PolGrammar.{words_at}
-use Rattle.calculus.specs.Terms.{Term, same_name, Rule, part, Command, assume, step, pol, listed, rule_text}
+use Rattle.calculus.specs.Terms.{Term, same_name, Rule, Command, assume, step, pol, listed, rule_text}
 use Rattle.calculus.specs.Words.{Res, ok, bad, Mark, opening, closing, cl-word, assume-word, step-word, rule-word, premises-word, args-word, Word, mark, operator, numeral, name, negated-name}
 use Rattle.calculus.specs.Tokens.{Token, ended, word, wrong, token_at}
 use Rattle.calculus.specs.Limits.{max_nodes, max_text, max_commands, known, nodes, nodes_in, fits, fit_all, all_known, allowed, allowed_behind, command_nodes, all_nodes, max_pols, pol_lines, some_word, allowed_words}

@@ -293,7 +293,7 @@ run-clauses ls (c ∷ cs) =
 pub below_length : (ls : List Said) (cs : List Command) → length (clauses_below ls cs) ≡ length cs
 unfolding clauses_below
 below_length ls [] = refl
-below_length ls (c ∷ cs) = ap suc (below_length _ cs)
+below_length ls (c ∷ cs) = ap suc (below_length (ls ++ (record { id = id_of c; clause = clause_below ls c } ∷ [])) cs)
 
 pub run_length : (cs : List Command) → length (run [] cs) ≡ length cs
 unfolding clauses sayings

@@ -6,7 +6,7 @@ use Prim.Native.Nat.{ℕ, zero, suc, ◌+◌, ◌≤◌, ◌<◌}
 use native.Mathlib.Omega.{arith}
 use lib.Dec.{leb, ltb, eqb, le→leb}
 use lib.ListN.{length, take, drop}
-use lib.Seq.{drop-append_seam, drop_drop}
+use lib.Seq.{drop-append_seam, drop-drop}
 use lib.IntN.{ℤ}
 use Rattle.calculus.specs.Bytes.{is_blank, in_word, class_of, opens, closes, bytes}
 use Rattle.calculus.specs.Commands.{enough, new_id, premise, premises, premises_at, args_at, rule_of, on_rule, rule_at, assume_at, step_at, pol_at, pol_or, command_at, Read, whole, refused, Lead, finish, begin, halt, on_lead, lead_at, on_command, on_read, commands, read_behind}
@@ -228,7 +228,7 @@ module _ (o s : List ℕ) where
   pub token-behind : (at : ℕ) → token_at u (m + at) ≡ later_token m (token_at s at)
   unfolding token_at token_behind
   token-behind at =
-      let d : drop (m + at) u ≡ drop at s = sym (drop_drop at m u) ∙ ap (drop at) (drop-append_seam o s) in
+      let d : drop (m + at) u ≡ drop at s = sym (drop-drop at m u) ∙ ap (drop at) (drop-append_seam o s) in
       ap (λ (bs : List ℕ). token_from (m + at + span is_blank bs) (drop (span is_blank bs) bs)) d
       ∙ ap (λ (p : ℕ). token_from p (drop (span is_blank (drop at s)) (drop at s))) (add_assoc m at (span is_blank (drop at s)))
       ∙ from-later m (at + span is_blank (drop at s)) (drop (span is_blank (drop at s)) (drop at s))

@@ -1,7 +1,7 @@
 -- The assumptions that constraints become have the ids c1, c2, .. and keep the limits of a file, so both texts together are one list of commands within them.
 use mathlib.Core.Path.{◌≡◌, refl, sym, ap, ap₂, subst, ◌∙◌}
 use mathlib.Core.Bool.{Bool, true, false, not, ◌||◌}
-use mathlib.Core.List.{List, [], ◌∷◌, ◌++◌, map, append_assoc, append-nil, map_append}
+use mathlib.Core.List.{List, [], ◌∷◌, ◌++◌, map, append_assoc, append-nil, map-append}
 use mathlib.Core.Logic.{◌↔◌}
 use Prim.Native.Nat.{ℕ, zero, suc, ◌+◌, ◌≤◌, ◌<◌}
 use native.Mathlib.Omega.{arith}
@@ -47,7 +47,7 @@ ids-of n (compare xs equal k) = refl
 ids_more : (before : List Command) (n : ℕ) (k : Constraint) → map id_of before ≡ ids_behind 0 n → map id_of (before ++ assumptions_of n k) ≡ ids_behind 0 (n + length (assumptions_of n k))
 ids_more before n k e =
     let g : 0 + n ≡ n = omega arith in
-    map_append id_of before (assumptions_of n k)
+    map-append id_of before (assumptions_of n k)
     ∙ ap₂ (λ (a b : List (List ℕ)). a ++ b) e (ids-of n k)
     ∙ sym (ids-append 0 n (length (assumptions_of n k)) ∙ ap (λ (i : ℕ). ids_behind 0 n ++ ids_behind i (length (assumptions_of n k))) g)
 
@@ -57,7 +57,7 @@ ids_all n [] = refl
 ids_all n (k ∷ ks) =
     let cs : List Command = assumptions_of n k in
     let ds : List Command = assumptions_behind (n + length cs) ks in
-    map_append id_of cs ds
+    map-append id_of cs ds
     ∙ ap₂ (λ (a b : List (List ℕ)). a ++ b) (ids-of n k) (ids_all (n + length cs) ks)
     ∙ sym (ap (ids_behind n) (length-append cs ds) ∙ ids-append n (length cs) (length ds))
 

@@ -7,7 +7,7 @@ use native.Mathlib.Omega.{arith}
 use lib.Dec.{T, not_T, eqb, eqb→eq, leb}
 use lib.IntN.{ℤ, pos, negsuc, nat_abs}
 use lib.ListN.{length, drop, get_or, length-append}
-use lib.Seq.{take-append_seam, drop-append_seam, drop_drop, drop-length}
+use lib.Seq.{take-append_seam, drop-append_seam, drop-drop, drop-length}
 use Rattle.calculus.specs.Bytes.{bytes, is_blank, is_digit, is_letter, in_name, in_word, class_of}
 use Rattle.calculus.specs.Terms.{same_name}
 use Rattle.calculus.specs.Words.{ok, bind, decimal, integer_text, digits, max_numeral, max_name, magnitude, negative, numeral_of, digit_first, numeral_first}
@@ -191,7 +191,7 @@ text-ends (w ∷ ws) more e = refl
 word-behind : (s : List ℕ) (w : OpbWord) (p : ℕ) (rest : List ℕ) → drop p s ≡ 32 ∷ (opb_text w ++ rest) → drop (p + suc (length (opb_text w))) s ≡ rest
 word-behind s w p rest d =
     let v : List ℕ = 32 ∷ opb_text w in
-    sym (drop_drop (length v) p s) ∙ ap (drop (length v)) d ∙ drop-append_seam v rest
+    sym (drop-drop (length v) p s) ∙ ap (drop (length v)) d ∙ drop-append_seam v rest
 
 inside-has : (s : List ℕ) (ws : List OpbWord) (p e : ℕ) (more : List ℕ) → AllOpbInRange ws → span in_opb_word more ≡ 0 → drop p s ≡ opb_text_of ws ++ more → p + length (opb_text_of ws) ≡ e → HasInside s p ws e × (drop e s ≡ more)
 unfolding HasInside AllOpbInRange opb_text_of

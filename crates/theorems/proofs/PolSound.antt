@@ -10,7 +10,7 @@ use lib.ListN.{length}
 use lib.Signed.{le_z, ◌≤ℤ◌, le_z_yes}
 use Rattle.integer.specs.Integers.{div_up, min_z}
 use Rattle.integer.proofs.Laws.{≤_trans}
-use Rattle.integer.proofs.Parts.{int, link, ‹◌›, lit, ◌⊕◌, ◌⊖◌}
+use Rattle.integer.proofs.Parts.{int, link, ‹◌›, ◌⊕◌, ◌⊖◌}
 use Rattle.calculus.specs.Marks.{plain_of}
 use Rattle.calculus.specs.Matching.{is_name, or_bad}
 use Rattle.calculus.specs.Pol.{max_literals, max_stack, line_inequality, axiom_of, less_slack, added, each_by, mapped, multiplied, divided, saturated, fits_entry, stacked, push, on_top, on_two, pol_step, pol_steps, last_entry, pol_result, finished, given_clause, given_answer, pushed_ids}

@@ -12,7 +12,7 @@ use Rattle.calculus.specs.Equality.{same_op}
 use Rattle.calculus.specs.Matching.{or_bad, as_constant, binary, is_name, neg_of, pair, arguments_of}
 use Rattle.calculus.specs.Entries.{Entry, Inequality, Lit, entry}
 use Rattle.calculus.specs.Sums.{max_summands, all, count, lit_if, lit_of, lone_constant, all_names, opp, put, summands, unwrap_inequality, sum_or, pb_sum, summand, same_lit, split_summation, children_or}
-use Rattle.calculus.specs.Terms.{Op, Term, Terms, add, app, cons, same_integer, ge, le, mul, nil, num, sub, var}
+use Rattle.calculus.specs.Terms.{Op, Term, Terms, add, app, cons, same_integer, ge, mul, nil, num, sub, var}
 use Rattle.calculus.specs.Truth.{Assignment, Satisfies, are_arithmetic, arithmetic_op, bit, is_arithmetic, is_statement, less_z, pair_of, prod_z, statement_op, sum_z, truth, truth_op, two, val, val_op, vals}
 use Rattle.calculus.specs.Words.{Res, bad, bind, ensure, ok}
 use Rattle.calculus.proofs.Booleans.{and_l, and_mk, and_r}

@@ -1,7 +1,7 @@
 -- A sum of distinct keys is worth its reduction and the slack.
 -- Each entry loses what it shares with its opposite; of two opposite literals one is true, and the slack counts each pair once.
 use mathlib.Core.Path.{◌≡◌, refl, sym, ap, ap₂, subst, ◌∙◌}
-use mathlib.Core.Bool.{Bool, true, false, not, cond, ◌&&◌, not_not}
+use mathlib.Core.Bool.{Bool, true, false, not, cond, ◌&&◌, not-not}
 use mathlib.Core.List.{List, [], ◌∷◌}
 use lib.Dec.{T}
 use lib.IntN.{ℤ, pos, ◌+ℤ◌, ◌-ℤ◌, +ℤ_idr}
@@ -24,7 +24,7 @@ keep-min x y = go (lt_z y x) (λ t. lt_z_yes t) (λ t. lt_z_no t)
     go false f g = let h : x ≤ℤ y = g tt in omega (int, min-l x y, min_glb {a = x} {b = y} {c = x} (omega int) h, link (lit 0 ⊕ ‹ min_z x y ›))
 
 pub opp-opp : (l : Lit) → opp (opp l) ≡ l
-opp-opp l = let p : not (not l.negated) ≡ l.negated = not_not l.negated in λ i. record { variable = l.variable; negated = p i }
+opp-opp l = let p : not (not l.negated) ≡ l.negated = not-not l.negated in λ i. record { variable = l.variable; negated = p i }
 
 -- ---- what an entry shares with its opposite
 shared : List Entry → Entry → ℤ

@@ -10,7 +10,7 @@ use Rattle.calculus.specs.Claim.{Claim, EndsIn, lines_of, last_line, holds_yes, 
 use Rattle.calculus.specs.Clauses.{Said, clause_below, clauses_below, clauses_of}
 use Rattle.calculus.specs.Marks.{run}
 use Rattle.calculus.specs.Report.{line_text, totals_text, report_lines}
-use Rattle.calculus.specs.Terms.{Term, Command, assume, step, pol}
+use Rattle.calculus.specs.Terms.{id_of, Term, Command, assume, step, pol}
 use Rattle.calculus.specs.Truth.{Assignment, Models, clause_of}
 use Rattle.theorems.proofs.Demand.{demand3}
 use Rattle.theorems.proofs.Lines.{CleanLines, CleanIds, run-clean, render-lines, totals_line, last_line_lem, ends-refuted, marked-line, below_length}
@@ -53,7 +53,7 @@ below-written ls [] i h = absurd h
 below-written ls (assume d x ∷ cs) zero h = refl
 below-written ls (step d c r ds xs ∷ cs) zero h = refl
 below-written ls (pol d ws ∷ cs) zero h = absurd h
-below-written ls (c ∷ cs) (suc i) h = below-written _ cs i h
+below-written ls (c ∷ cs) (suc i) h = below-written (ls ++ (record { id = id_of c; clause = clause_below ls c } ∷ [])) cs i h
 
 pub written-clause : (cs : List Command) (i : ℕ) → T (not (get_or (map is_pol cs) i true)) → get_or (clauses_of cs) i [] ≡ get_or (map clause_of cs) i []
 unfolding clauses_of

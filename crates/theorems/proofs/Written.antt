@@ -7,7 +7,7 @@ use native.Mathlib.Omega.{arith}
 use lib.Dec.{T, not_T, eqb, eqb→eq, leb}
 use lib.IntN.{ℤ, pos, negsuc, nat_abs}
 use lib.ListN.{length, drop, length-append}
-use lib.Seq.{take-append_seam, drop-append_seam, drop_drop, drop-length}
+use lib.Seq.{take-append_seam, drop-append_seam, drop-drop, drop-length}
 use Rattle.calculus.specs.Bytes.{bytes, is_blank, is_digit, is_letter, in_name, in_word, class_of}
 use Rattle.calculus.specs.Commands.{whole, read_file}
 use Rattle.calculus.specs.Terms.{Op, add, sub, mul, ge, gt, le, lt, eq, conj, Term, Terms, num, var, app, nil, cons, listed, Rule, addition, multiplication, division, saturation, literal, normalize, transfer, part, rule_text, Command, assume, step, pol}
@@ -216,7 +216,7 @@ text-has s [] p e h d l = omega arith
 text-has s (w ∷ ws) p e h d l =
     let v : List ℕ = 32 ∷ word_text w in
     let n : length (v ++ text_of ws) ≡ length v + length (text_of ws) = length-append v (text_of ws) in
-    let k : drop (p + length v) s ≡ text_of ws = sym (drop_drop (length v) p s) ∙ ap (drop (length v)) d ∙ drop-append_seam v (text_of ws) in
+    let k : drop (p + length v) s ≡ text_of ws = sym (drop-drop (length v) p s) ∙ ap (drop (length v)) d ∙ drop-append_seam v (text_of ws) in
     (p + 1, p + length v, ap (token_behind p) d ∙ behind-text w p (text_of ws) h.0 (text-ends ws), text-has s ws (p + length v) e h.1 k (omega arith))
 
 -- words in range are the words of their text

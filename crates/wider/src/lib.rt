@@ -1,4 +1,6 @@
 // A node table in a larger one: its copy, the index of its names made anew, and its last names out of the index again.
+#![tactic(auto)]
+
 ghost use Rattle.std.specs.Prelude.{◌+◌, ◌≤◌, length};
 ghost use Rattle.nodes.specs.Nodes.{capacity, max_capacity, Table, Named, Firsts, Moved};
 ghost use Rattle.terms.specs.Names.{name_words, Names};

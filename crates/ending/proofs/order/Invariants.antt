@@ -1,0 +1,8 @@
+use Rattle.ending.proofs.Sorting.{Ordering}
+use Rattle.ending.proofs.order.Given as goal
+
+abbrev pub invariant-loop-i : goal.invariant-loop-i
+invariant-loop-i l = Ordering l.text l.nodes l.initial.coeffs l.initial.keys l.r l.coeffs l.keys l.i
+
+abbrev pub decreases-loop-i : goal.decreases-loop-i
+decreases-loop-i l = l.i

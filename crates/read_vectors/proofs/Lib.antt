@@ -1,2 +1,0 @@
--- What the proof of the printing uses.
-mod InUse

@@ -1,0 +1,10 @@
+use Prim.Native.Nat.{◌-◌}
+use lib.ListN.{length}
+use Rattle.reader.proofs.Citing.{Inv}
+use Rattle.reader.proofs.cite.Given as goal
+
+abbrev pub invariant-loop-e : goal.invariant-loop-e
+invariant-loop-e l = Inv l.text l.commands l.k l.at l.initial.nodes l.initial.pending l.n l.c l.nodes l.pending l.i l.q
+
+abbrev pub decreases-loop-e : goal.decreases-loop-e
+decreases-loop-e l = length l.text - l.i
