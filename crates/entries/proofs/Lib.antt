@@ -1,3 +1,2 @@
 pub mod Partly
 pub mod Same
-pub mod While

@@ -2,7 +2,7 @@
 use mathlib.Core.Path.{◌≡◌, refl, sym, ap, ◌∙◌}
 use mathlib.Core.Bool.{Bool, false}
 use mathlib.Core.List.{List, [], ◌∷◌, ◌++◌, append_assoc}
-use Prim.Native.Nat.{ℕ, suc, ◌+◌, ◌-◌, ◌*◌, ◌≤◌, ◌<◌, zero-le}
+use Prim.Native.Nat.{ℕ, suc, ◌+◌, ◌-◌, ◌*◌, ◌≤◌, ◌<◌}
 use native.Mathlib.Numerals.{add-one}
 use native.Mathlib.Omega.{arith}
 use lib.ListN.{length, get_or, take, drop}
@@ -32,12 +32,6 @@ named p k h = record {
 -- a number that is at least k and not k
 past : (k : ℕ) {n : ℕ} → (n ≡ k → ⊥) → k ≤ n → suc k ≤ n
 past k f h = omega (arith, f)
-
--- the last of ten kinds is none of the others
-pub last-kind : {n : ℕ} → (n ≡ 0 → ⊥) → (n ≡ 1 → ⊥) → (n ≡ 2 → ⊥) → (n ≡ 3 → ⊥) → (n ≡ 4 → ⊥) → (n ≡ 5 → ⊥) → (n ≡ 6 → ⊥) → (n ≡ 7 → ⊥) → (n ≡ 8 → ⊥) → n ≤ 9 → n ≡ 9
-last-kind {n} a b c d e f g h i most =
-    let least : 9 ≤ n = past 8 i (past 7 h (past 6 g (past 5 f (past 4 e (past 3 d (past 2 c (past 1 b (past 0 a zero-le)))))))) in
-    omega arith
 
 -- ---- parts
 -- a line up to its rule, from the words as they were read: the id's count from the text's end
