@@ -35,9 +35,9 @@ run-append ls [] c = refl
 run-append ls (d ∷ cs) c = run-append (ls ++ (line_of ls d ∷ [])) cs c
 
 -- the last of a list
-get_d-last : (ls : List Line) (l : Line) → get_or (ls ++ (l ∷ [])) (length ls) no_line ≡ l
-get_d-last [] l = refl
-get_d-last (m ∷ ls) l = get_d-last ls l
+get_or-last : (ls : List Line) (l : Line) → get_or (ls ++ (l ∷ [])) (length ls) no_line ≡ l
+get_or-last [] l = refl
+get_or-last (m ∷ ls) l = get_or-last ls l
 
 module _ (s t w : List ℕ) where
   pub lines_none : command_lines s t w 0 ≡ []
@@ -64,7 +64,7 @@ module _ (s t w : List ℕ) where
       go false f g ih =
           let e : j ≡ k = omega (arith, g tt) in
           ap (λ (i : ℕ). get_or (command_lines s t w k ++ (command_line s t w k ∷ [])) i no_line) (e ∙ sym (lines_long k))
-          ∙ get_d-last (command_lines s t w k) (command_line s t w k)
+          ∙ get_or-last (command_lines s t w k) (command_line s t w k)
           ∙ ap (λ (i : ℕ). command_line s t w i) (sym e)
 
 -- ---- the line of an id: the first that has it
