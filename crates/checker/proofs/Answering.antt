@@ -3,7 +3,6 @@ use mathlib.Core.Path.{◌≡◌, refl, sym, ap, subst, ◌∙◌}
 use mathlib.Core.Bool.{Bool, true, false}
 use mathlib.Core.List.{List}
 use Prim.Native.Nat.{ℕ, zero, suc, ◌+◌, ◌-◌, ◌≤◌, ◌<◌}
-use native.Mathlib.Nat.{not-suc-le-zero}
 use native.Mathlib.Omega.{arith}
 use lib.IntN.{ℤ}
 use lib.ListN.{length, get_or, set, replicate, length-replicate}
@@ -22,7 +21,6 @@ use Rattle.matching.specs.Matched.{answer_of}
 use Rattle.matching.specs.declared.Answer.{Answer}
 use Rattle.reader.specs.Commands.{word_at, kind_word, pol_kind, pol_words_of}
 use Rattle.sums.specs.Places.{Rooms}
-use Rattle.sums.proofs.Places.{rooms-kept}
 use Rattle.steps.specs.Answers.{Given, StepIs}
 use Rattle.steps.proofs.Stepping.{in_all}
 use Rattle.checker.specs.Runs.{File, command_lines, command_line, NumberedBy, answered, AnswerIs, AnswersAre}
@@ -91,14 +89,8 @@ first_more {A} l d g k a {m} f h e q j i =
 abbrev pub Left : (bs ns : List ℕ) (k : ℕ) → Type 0
 Left bs ns k = (j : ℕ) → k ≤ j → get_or ns j 0 ≡ get_or bs j 0
 
-pub left-all : (bs : List ℕ) (k : ℕ) → Left bs bs k
-left-all bs k j h = refl
-
 pub left-more : (bs ns : List ℕ) (k a : ℕ) {ms : List ℕ} → Left bs ns k → ms ≡ set ns k a → Left bs ms (k + 1)
 left-more bs ns k a L q j h = ap (λ (v : List ℕ). get_or v j 0) q ∙ get_or-set_other ns k j a 0 (λ z. let v : ⊥ = omega (arith, z) in v) ∙ L j (omega arith)
-
-pub answers-none : (t w bs ns : List ℕ) (n : ℕ) (ps : List Bool) → AnswersAre t w n 0 bs ns ps
-answers-none t w bs ns n ps s f c = (λ j h. absurd (not-suc-le-zero h), λ j h. absurd (not-suc-le-zero h))
 
 pub answers-more : (t w bs ns : List ℕ) (n : ℕ) (ps : List Bool) (k number : ℕ) (r : Answer) {ms : List ℕ} {qs : List Bool} → AnswersAre t w n k bs ns ps → number ≡ get_or bs k 0 → k < n → k < length ns → k < length ps
     → AnswerIs t w n k number r → ms ≡ set ns k (number_of (answer_of r)) → qs ≡ set ps k (plain_of (answer_of r)) → AnswersAre t w n (k + 1) bs ms qs
@@ -113,18 +105,6 @@ pub answers-all : (t w bs ns : List ℕ) (n : ℕ) (ps : List Bool) (k : ℕ) �
 answers-all t w bs ns n ps k A h s f c = let (numbers, plains) = A s f c in (λ j i. numbers j (omega arith), λ j i. plains j (omega arith))
 
 -- ---- the room of every sum
--- the arrays have the lengths that they had
-pub record Kept (cs₀ : List ℤ) (ks₀ sl₀ : List ℕ) (cs : List ℤ) (ks sl : List ℕ) : Type 0 where
-  pub coefficients : length cs ≡ length cs₀
-  pub keys : length ks ≡ length ks₀
-  pub slots : length sl ≡ length sl₀
-
-pub kept_refl : (cs : List ℤ) (ks sl : List ℕ) → Kept cs ks sl cs ks sl
-kept_refl cs ks sl = record { coefficients = refl; keys = refl; slots = refl }
-
-pub kept-rooms : {t : List ℕ} {cs₀ : List ℤ} {ks₀ sl₀ : List ℕ} {cs : List ℤ} {ks sl : List ℕ} → Kept cs₀ ks₀ sl₀ cs ks sl → Rooms t cs₀ ks₀ sl₀ → Rooms t cs ks sl
-kept-rooms k = rooms-kept k.coefficients k.keys k.slots
-
 pub rooms-of : (t : List ℕ) (z : ℤ) (a b : ℕ) → capacity t ≤ max_nodes → Rooms t (replicate 3072 z) (replicate 3072 a) (replicate 16384 b)
 rooms-of t z a b h = record {
   coefficients = omega (arith, length-replicate 3072 z);

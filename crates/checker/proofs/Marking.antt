@@ -108,9 +108,6 @@ module _ {s t w : List ℕ} {n : ℕ} (f : File s t w n) where
           ∙ sym (ap₂ (λ (b : Bool) (c : List Term). b && unreachable c) (sym (m k h) ∙ e) (clause-is f k h))
 
 -- ---- the marks so far
-pub marked-none : (s t w : List ℕ) (marks : List Bool) → Marked s t w 0 marks
-marked-none s t w marks j h = absurd (not-suc-le-zero h)
-
 pub marked-set : (s t w : List ℕ) (marks : List Bool) (k : ℕ) (b : Bool) {next : List Bool} → Marked s t w k marks → k < length marks → b ≡ (command_line s t w k).holds → next ≡ set marks k b → Marked s t w (k + 1) next
 marked-set s t w marks k b m h e q = first_more marks false (λ (j : ℕ). (command_line s t w j).holds) k b m h e q
 

@@ -145,12 +145,10 @@ fn answer_all(
     requires rooms { Rooms nodes.now coeffs.old keys.old slots.old }
     ensures { AnswersAre nodes.now commands.now n n numbers.old numbers.new plains.new }
 {
-    let mut k = 0;
-    while k < n {
+    for k in 0..n {
         let number = numbers[k];
         let answer = answer_of(nodes, commands, n, k, number, coeffs, keys, slots);
         put_answer(numbers, plains, k, answer);
-        k += 1;
     }
 }
 
@@ -160,13 +158,11 @@ fn all_hold(marks: &[bool], premises: &[u32]) -> bool
     requires { Cited marks.now premises.now }
     ensures { result ≡ all_marked marks.now premises.now }
 {
-    let mut j = 0;
-    while j < premises.len() {
-        let p = wide(premises[j]);
+    for premise in premises {
+        let p = wide(*premise);
         if !marks[p] {
             return false;
         }
-        j += 1;
     }
     true
 }
@@ -259,11 +255,9 @@ fn mark_commands(
     requires n_in_bounds { (n ≤ length plains.now) × (n ≤ length marks.old) }
     ensures { MarksAre text.now nodes.now commands.now n n plains.now marks.new }
 {
-    let mut k = 0;
-    while k < n {
+    for k in 0..n {
         let held = holds(text, nodes, commands, n, k, plains[k], marks);
         marks[k] = held;
-        k += 1;
     }
 }
 
@@ -304,12 +298,10 @@ fn refuted_by(
     requires rooms { Rooms nodes.now coeffs.old keys.old slots.old }
     ensures { RefutedIs nodes.now commands.now n marks.now n result }
 {
-    let mut k = 0;
-    while k < n {
+    for k in 0..n {
         if refutes(nodes, commands, n, marks, k, coeffs, keys, slots) {
             return true;
         }
-        k += 1;
     }
     false
 }

@@ -43,17 +43,10 @@ fn append(text: &mut [u8], at: usize, src: &[u8]) -> usize
     requires { at ≤ length text.old }
     ensures { Stored text.old at src.now text.new result }
 {
-    let mut j = 0;
-    let mut o = at;
-    while j < src.len() {
-        if o == text.len() {
-            return o;
-        }
-        text[o] = src[j];
-        o += 1;
-        j += 1;
-    }
-    o
+    let count = src.len().min(text.len() - at);
+    let end = at + count;
+    text[at..end].copy_from_slice(&src[..count]);
+    end
 }
 
 // Reads from an open file until it ends or text is full. A read that gives fewer bytes is followed by another; one that fails is told.

@@ -56,7 +56,6 @@ nonzeros-snoc (x ∷ E) e = rw (nonzeros-snoc E e) (go (same_integer x.coefficie
 
 -- of the first i literals of the stack's first entry r are not 0
 pub record Choosing (cs : List ℤ) (ks : List ℕ) (i r : ℕ) (ds : List ℤ) (ls : List ℕ) : Type 0 where
-  pub most : i ≤ count_of (window 0 ks)
   pub few : r ≤ i
   pub is : (d : ℕ → Term) → run (entry_at d ds ls) 0 r ≡ nonzeros (run (entry_at d (window 0 cs) (window 0 ks)) 0 i)
   pub each : (j : ℕ) → j < r → Picked (window 0 cs) (window 0 ks) j ds ls
@@ -64,7 +63,7 @@ pub record Choosing (cs : List ℤ) (ks : List ℕ) (i r : ℕ) (ds : List ℤ) 
 
 pub choosing-start : (cs : List ℤ) (ks : List ℕ) → Choosing cs ks 0 0 cs ks
 unfolding run nonzeros
-choosing-start cs ks = record { most = omega arith; few = omega arith; is = λ d. refl; each = λ j h. absurd (not-suc-le-zero h); behind = behind-none max_literals cs ks }
+choosing-start cs ks = record { few = omega arith; is = λ d. refl; each = λ j h. absurd (not-suc-le-zero h); behind = behind-none max_literals cs ks }
 
 module _ {cs : List ℤ} {ks : List ℕ} {i r : ℕ} {ds : List ℤ} {ls : List ℕ} (C : Choosing cs ks i r ds ls) where
   -- what is read next: the entry's words are as they were
@@ -114,7 +113,6 @@ module _ {cs : List ℤ} {ks : List ℕ} {i r : ℕ} {ds : List ℤ} {ls : List 
         go true q =
             let n : e ≡ r = K.count ∙ rw q in
             rw n record {
-              most = omega arith;
               few = omega (arith, C.few);
               is = λ d. first d ∙ sym (last d ∙ rw q (append-nil (run (entry_at d ds ls) 0 r)));
               each = old;
@@ -123,14 +121,11 @@ module _ {cs : List ℤ} {ks : List ℕ} {i r : ℕ} {ds : List ℤ} {ls : List 
         go false q =
             let n : e ≡ r + 1 = K.count ∙ rw q in
             rw n record {
-              most = omega arith;
               few = omega (arith, C.few);
               is = λ d. grown q d ∙ sym (last d ∙ rw q);
               each = λ j h. new q j h (dec_lt j r);
               behind = kept-behind;
             }
 
-  pub choosing-all : count_of (window 0 ks) ≤ i → Nonzeros (window 0 cs) (window 0 ks) ds ls r
-  choosing-all h =
-      let e : i ≡ count_of (window 0 ks) = omega (arith, C.most) in
-      record { is = λ d. rw e at (C.is d); few = omega (arith, C.few); each = C.each }
+  pub choosing-all : i ≡ count_of (window 0 ks) → Nonzeros (window 0 cs) (window 0 ks) ds ls r
+  choosing-all e = record { is = λ d. rw e at (C.is d); few = omega (arith, C.few); each = C.each }

@@ -22,8 +22,7 @@ fn name_before(text: &[u8], a: usize, b: usize, c: usize, d: usize) -> bool
     ensures { result ≡ name_before (slice a b text.now) (slice c d text.now) }
 {
     let mut i = a;
-    let mut j = c;
-    while j < d {
+    for j in c..d {
         if i == b {
             return true;
         }
@@ -33,7 +32,6 @@ fn name_before(text: &[u8], a: usize, b: usize, c: usize, d: usize) -> bool
             return x < y;
         }
         i += 1;
-        j += 1;
     }
     false
 }
@@ -76,12 +74,10 @@ fn nonzero(coeffs: &mut [i64], keys: &mut [u32]) -> usize
 {
     let n = nodes::wide(keys[STACK + LITERALS]);
     let mut r = 0;
-    let mut i = 0;
-    while i < n {
+    for i in 0..n {
         let c = coeffs[STACK + i];
         let key = keys[STACK + i];
         r = keep_nonzero(coeffs, keys, r, c, key);
-        i += 1;
     }
     r
 }
@@ -114,15 +110,13 @@ fn put_in_order(
     requires { Gathered nodes.now coeffs.old keys.old r × InText text.now nodes.now keys.old r × (i < r) }
     ensures { InPlace text.now nodes.now coeffs.old keys.old i r coeffs.new keys.new }
 {
-    let mut j = i;
-    while j + 1 < r {
+    for j in i..r - 1 {
         let k = keys[j];
         let l = keys[j + 1];
         if lit_before(text, nodes, k, l) {
             return;
         }
         swap(coeffs, keys, j);
-        j += 1;
     }
 }
 
@@ -131,9 +125,7 @@ fn order(text: &[u8], nodes: &[u32], coeffs: &mut [i64], keys: &mut [u32], r: us
     requires { Gathered nodes.now coeffs.old keys.old r × InText text.now nodes.now keys.old r }
     ensures { Ordered text.now nodes.now coeffs.old keys.old r coeffs.new keys.new }
 {
-    let mut i = r;
-    while i > 0 {
-        i -= 1;
+    for i in (0..r).rev() {
         put_in_order(text, nodes, coeffs, keys, i, r);
     }
 }
@@ -168,10 +160,8 @@ fn put_words(nodes: &[u32], coeffs: &[i64], keys: &[u32], summands: &mut [u32], 
     requires { Gathered nodes.now coeffs.now keys.now r × Near nodes.now keys.now r × (summand_words ≤ length summands.old) }
     ensures { Written nodes.now coeffs.now keys.now r summands.new }
 {
-    let mut q = 0;
-    while q < r {
+    for q in 0..r {
         put_summand(nodes, coeffs, keys, summands, q);
-        q += 1;
     }
 }
 

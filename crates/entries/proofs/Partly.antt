@@ -23,12 +23,6 @@ beyond = record { coefficient = pos 0; variable = 0; sign = false }
 abbrev pub entry_at : List Entry → ℕ → Entry
 entry_at es i = get_or es i beyond
 
-pub partly_length : (i : ℕ) (es : List Entry) → length (partly i es) ≡ length es
-unfolding partly
-partly_length zero es = refl
-partly_length (suc i) [] = refl
-partly_length (suc i) (e ∷ es) = ap suc (partly_length i es)
-
 -- the entry that is next can be negated
 pub partly_turns : (i : ℕ) (es : List Entry) → AllTurn es → i < length es → Turns (entry_at (partly i es) i).coefficient
 unfolding partly

@@ -25,10 +25,8 @@ pub fn negate_sum(sum: &mut [Entry])
     requires { AllTurn sum.old }
     ensures { sum.new ≡ map negated sum.old }
 {
-    let mut i = 0;
-    while i < sum.len() {
-        negate_ctv(&mut sum[i]);
-        i += 1;
+    for entry in sum.iter_mut() {
+        negate_ctv(entry);
     }
 }
 

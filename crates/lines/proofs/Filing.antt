@@ -286,18 +286,6 @@ pub record Passed (s t u w x y numbers : List ℕ) (all n c k m d : ℕ) : Type 
   pub lines : (j : ℕ) → j < k → word_at x j kind_word ≡ pol_kind → LineIs s u x numbers j
   pub small : m ≤ n + clause_nodes * pol_lines (commands_of s t w k)
 
-pub passed_none : {s t w y numbers : List ℕ} {all n c : ℕ} → Table t n c → Names s t y n → Commands s t w all n c → Indexed s w id_index all → Passed s t t w w y numbers all n c 0 n c
-passed_none {s} {t} {w} {y} {numbers} {all} {n} {c} T N C I = record {
-  grown = record { kept = kept_refl t n c; table = T; names = N; more = omega arith; wider = omega arith };
-  commands = C;
-  indexed = I;
-  same = λ j h. refl;
-  ids = λ j h. refl;
-  kinds = λ j h. refl;
-  lines = λ j h. let z : ⊥ = omega arith in absurd z;
-  small = omega arith;
-}
-
 -- pol lines among one command more
 pols-more : (s t w : List ℕ) (k : ℕ) → pol_lines (commands_of s t w (k + 1)) ≡ pol_lines (commands_of s t w k) + one_pol (word_at w k kind_word)
 unfolding commands_of

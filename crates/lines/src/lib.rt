@@ -444,17 +444,15 @@ fn run_commands(
     requires { LinesReady text.now nodes.old commands.old names.old coeffs.old keys.old slots.old numbers.old all n c × (summand_words ≤ length summands.old) × (max_nodes ≤ length pending.old) }
     ensures { LinesRun text.now nodes.old nodes.new commands.old commands.new numbers.new all }
 {
-    let mut k = 0;
     let mut m = n;
     let mut d = c;
-    while k < all {
+    for k in 0..all {
         let ran = run_command(
             text, nodes, commands, names, coeffs, keys, slots, numbers, summands, pending, all, k,
             m, d,
         );
         m = ran.nodes;
         d = ran.children;
-        k += 1;
     }
 }
 

@@ -63,10 +63,6 @@ drop_over [] (suc k) h = refl
 drop_over (x ∷ l) zero h = let z : ⊥ = omega arith in absurd z
 drop_over (x ∷ l) (suc k) h = drop_over l k (omega arith)
 
-drop-start : (l : List ℕ) → drop 0 l ≡ l
-drop-start [] = refl
-drop-start (x ∷ l) = refl
-
 -- from k on the answer of the test is that for the whole
 pub record Rest (all : Terms → Bool) (t l : List ℕ) (k : ℕ) : Type 0 where
   pub is : (s : List ℕ) → all (arguments_at s t (drop k l)) ≡ all (arguments_at s t l)
@@ -94,9 +90,6 @@ module _ {all : Terms → Bool} {t : List ℕ} {from to k : ℕ} (L : Left all t
 
 -- the test `all` asks `one` of each
 module _ (one : Term → Bool) (all : Terms → Bool) (none : all nil ≡ true) (more : (x : Term) (xs : Terms) → all (cons x xs) ≡ (one x && all xs)) where
-  pub rest-start : (t l : List ℕ) → Rest all t l 0
-  rest-start t l = record { is = λ s. rw (drop-start l) }
-
   rest-cons : (t l : List ℕ) (k : ℕ) → k < length l → (s : List ℕ) → all (arguments_at s t (drop k l)) ≡ (one (decode s t (get_or l k 0)) && all (arguments_at s t (drop (k + 1) l)))
   unfolding listed
   rest-cons t l k h s = rw (drop-cons l k 0 h, add-one k) (more (decode s t (get_or l k 0)) (arguments_at s t (drop (suc k) l)))
@@ -111,11 +104,6 @@ module _ (one : Term → Bool) (all : Terms → Bool) (none : all nil ≡ true) 
     pub rest_end : length l ≤ k → (s : List ℕ) → true ≡ all (arguments_at s t l)
     unfolding listed
     rest_end h s = sym none ∙ sym (ap (λ (m : List ℕ). all (arguments_at s t m)) (drop_over l k h)) ∙ R.is s
-
-  pub left-start : (t : List ℕ) (from to : ℕ) → Left all t from to from
-  left-start t from to =
-      let e : from - from ≡ 0 = omega arith in
-      record { begun = omega arith; rest = rw e (rest-start t (slice from to t)) }
 
   module _ {t : List ℕ} {from to k : ℕ} (L : Left all t from to k) (room : to ≤ length t) where
     pub left-more : k < to → ((s : List ℕ) → true ≡ one (decode s t (get_or t k 0))) → Left all t from to (k + 1)

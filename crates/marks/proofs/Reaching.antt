@@ -10,10 +10,8 @@ use lib.IntN.{ℤ, pos, ◌+ℤ◌}
 use lib.ListN.{length, get_or, drop}
 use lib.Seq.{drop-cons}
 use lib.Signed.{lt_z, le_z, ◌≤ℤ◌, ◌<ℤ◌, le_z_yes, lt_z_yes}
-use mir.Syntax.{w64}
-use mir.Val.{SFits}
 use Rattle.integer.specs.Integers.{Within}
-use Rattle.integer.proofs.Fits.{within_more, within-pos, within-add, fits-within}
+use Rattle.integer.proofs.Fits.{within_more, within-pos, within-add}
 use Rattle.integer.proofs.Parts.{int, link, ‹◌›, lit, ◌⊕◌}
 use Rattle.calculus.specs.Entries.{Lit, Entry, entry, Inequality}
 use Rattle.calculus.specs.Equality.{op_of}
@@ -69,7 +67,6 @@ pub record Summed {t : List ℕ} (x : Text t) (ts : List ℕ) (ones zeros : ℤ)
 -- over every text, and both values are small
 pub record Reaching (t ts : List ℕ) (ones zeros : ℤ) (i : ℕ) : Type 0 where
   pub summed : (x : Text t) → Below x.n ts → Summed x ts ones zeros i
-  pub most : i ≤ length ts
   pub within-ones : Within (i * max_numeral) ones
   pub within-zeros : Within (i * max_numeral) zeros
 
@@ -77,22 +74,17 @@ pub reach-start : (t ts : List ℕ) → Reaching t ts (pos 0) (pos 0) 0
 unfolding Distinct total
 reach-start t ts = record {
   summed = λ x b. record { sum = []; is = refl; distinct = tt; sum_at_one = refl; sum_at_zero = refl };
-  most = omega arith;
   within-ones = within-pos (omega arith);
   within-zeros = within-pos (omega arith);
 }
 
--- one numeral more is in range
-pub end_fits : {a c : ℤ} → Within max_total a → Within max_numeral c → SFits w64 (a +ℤ c)
-end_fits v w = fits-within (omega arith) (within-add v w)
-
 module _ {t ts : List ℕ} {ones zeros : ℤ} {i : ℕ} (R : Reaching t ts ones zeros i) where
-  module _ (few : length ts ≤ max_summands) where
+  module _ (few : i ≤ max_summands) where
     pub ones-within : Within max_total ones
-    ones-within = within_more (omega (arith, R.most)) R.within-ones
+    ones-within = within_more (omega arith) R.within-ones
 
     pub zeros_within : Within max_total zeros
-    zeros_within = within_more (omega (arith, R.most)) R.within-zeros
+    zeros_within = within_more (omega arith) R.within-zeros
 
   -- a term that is no summand
   pub reach-refused : i < length ts → (number : ℕ) → RefusedAt (λ (s : List ℕ). summand (decode s t (get_or ts i 0))) number → (z : ℤ) → ReachIs t ts z true
@@ -133,7 +125,6 @@ module _ {t ts : List ℕ} {ones zeros : ℤ} {i : ℕ} (R : Reaching t ts ones 
     pub reach-negated : (z : ℤ) → negated_of k ≡ true → z ≡ zeros +ℤ c → Reaching t ts ones z (i + 1)
     reach-negated z e q = record {
       summed = one_more ones z (λ v w. passed _ ones v (ap not e) w) (λ v w. counted _ zeros z v e q w);
-      most = omega arith;
       within-ones = within_more (omega arith) R.within-ones;
       within-zeros = rw (q, more) (within-add R.within-zeros S.within);
     }
@@ -142,7 +133,6 @@ module _ {t ts : List ℕ} {ones zeros : ℤ} {i : ℕ} (R : Reaching t ts ones 
     pub reach-plain : (o : ℤ) → negated_of k ≡ false → o ≡ ones +ℤ c → Reaching t ts o zeros (i + 1)
     reach-plain o e q = record {
       summed = one_more o zeros (λ v w. counted _ ones o v (ap not e) q w) (λ v w. passed _ zeros v e w);
-      most = omega arith;
       within-ones = rw (q, more) (within-add R.within-ones S.within);
       within-zeros = within_more (omega arith) R.within-zeros;
     }
@@ -213,10 +203,6 @@ stays z (cons t ts) E e = go (summand t) (stays z ts)
 -- over every text the first i terms are summands, and from there on the answer is that for the whole
 pub record Walked (t ts : List ℕ) (i : ℕ) : Type 0 where
   pub so_far : (x : Text t) → Below x.n ts → (E : List Entry) × (summands (listed (map (term x) ts)) [] ≡ summands (listed (map (term x) (drop i ts))) E)
-  pub most : i ≤ length ts
-
-pub walk_start : (t ts : List ℕ) → Walked t ts 0
-walk_start t ts = record { so_far = λ x b. ([], refl); most = omega arith }
 
 module _ {t ts : List ℕ} {i : ℕ} (W : Walked t ts i) (h : i < length ts) where
   pub walk_refused : (number : ℕ) → RefusedAt (λ (s : List ℕ). summand (decode s t (get_or ts i 0))) number → OtherIs t ts true
@@ -231,7 +217,6 @@ module _ {t ts : List ℕ} {i : ℕ} (W : Walked t ts i) (h : i < length ts) whe
     pub walk-next : Walked t ts (i + 1)
     walk-next = record {
       so_far = λ x b. let (E, q) = W.so_far x b in (put (lit_at (term x) k) c E, q ∙ one-summand x b E);
-      most = omega arith;
     }
 
     pub walk-other : ((s : List ℕ) → false ≡ is_name (decode s t (variable_of k))) → OtherIs t ts true
@@ -239,10 +224,6 @@ module _ {t ts : List ℕ} {i : ℕ} (W : Walked t ts i) (h : i < length ts) whe
         let (E, q) = W.so_far x b in
         ap (λ (r : Res (List Entry)). beyond (bind r (λ F. ok (record { sum = F; const = z })))) (q ∙ one-summand x b E)
         ∙ stays z _ (put (lit_at (term x) k) c E) (put_other (lit_at (term x) k) c E (sym (f x.text)))
-
--- an answer no says nothing
-pub other-not : (t ts : List ℕ) → OtherIs t ts false
-other-not t ts z e = absurd (subst T (sym e) tt)
 
 -- ---- an inequality
 -- an answer no says nothing

@@ -4,7 +4,7 @@ use mathlib.Core.Bool.{Bool, true, false, not, cond, ◌&&◌}
 use mathlib.Core.List.{List, [], ◌∷◌, map}
 use Prim.Native.Nat.{ℕ, zero, suc, ◌+◌, ◌*◌, ◌-◌, ◌≤◌, ◌<◌}
 use native.Mathlib.Omega.{arith}
-use lib.IntN.{ℤ, pos, ◌+ℤ◌, +ℤ_idl, +ℤ_idr, +ℤ_assoc}
+use lib.IntN.{ℤ, pos, ◌+ℤ◌, +ℤ_idr, +ℤ_assoc}
 use lib.ListN.{length, get_or}
 use lib.Signed.{lt_z}
 use mir.Syntax.{w64}
@@ -109,9 +109,6 @@ module _ {t : List ℕ} (at : ℕ) (cs : List ℤ) (ks : List ℕ) {n i k j : �
 
 -- ---- all entries
 module _ (E : List Entry) (f : ℕ → Entry) where
-  by-start : (n : ℕ) → pos 0 +ℤ greatest_by E (run f 0 (n - 0)) ≡ greatest_by E (run f 0 n)
-  by-start n = let e : n - 0 ≡ n = omega arith in rw e (+ℤ_idl _)
-
   by-more : (i n : ℕ) (x y : ℤ) → i < n → x +ℤ greatest_by E (run f i (n - i)) ≡ y → (x +ℤ greatest_at E (f i)) +ℤ greatest_by E (run f (i + 1) (n - (i + 1))) ≡ y
   unfolding greatest_by
   by-more i n x y h e = +ℤ_assoc x (greatest_at E (f i)) _ ∙ rw (run_more f i n h) at e
@@ -125,12 +122,6 @@ pub record Adding (t : List ℕ) (cs : List ℤ) (ks : List ℕ) (n : ℕ) (s : 
   pub is : (x : Text t) → Under x.n ks n
       → s +ℤ greatest_by (entries (term x) cs ks n) (run (entry_at (term x) cs ks) i (n - i)) ≡ greatest_by (entries (term x) cs ks n) (entries (term x) cs ks n)
   pub within : Within (i * max_total) s
-
-pub adding-start : (t : List ℕ) (cs : List ℤ) (ks : List ℕ) (n : ℕ) (s : ℤ) (i : ℕ) → s ≡ pos 0 → i ≡ 0 → Adding t cs ks n s i
-adding-start t cs ks n s i e q = record {
-  is = λ x under. rw (e, q) (by-start (entries (term x) cs ks n) (entry_at (term x) cs ks) n);
-  within = rw e (within-pos (omega arith));
-}
 
 module _ {t : List ℕ} {cs : List ℤ} {ks : List ℕ} {n : ℕ} {s : ℤ} {i : ℕ} (A : Adding t cs ks n s i) where
   pub adding-next : i < n → {a : ℤ} → GreatestAtIs t cs ks n i a → (v : ℤ) → v ≡ s +ℤ a → Adding t cs ks n v (i + 1)

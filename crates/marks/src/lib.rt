@@ -40,15 +40,13 @@ fn are_arithmetic(nodes: &[u32], from: usize, to: usize) -> bool
     requires { (to ≤ length nodes.now) × AllNodes nodes.now (slice from to nodes.now) }
     ensures { (s : List ℕ) → result ≡ are_arithmetic (arguments_at s nodes.now (slice from to nodes.now)) }
 {
-    let mut k = from;
-    while k < to {
+    for k in from..to {
         let i = nodes[k];
         if nodes::kind_of(nodes, nodes::wide(i)) < PLUS_KIND {
             if !is_arithmetic(nodes, i) {
                 return false;
             }
         }
-        k += 1;
     }
     true
 }
@@ -91,12 +89,10 @@ fn are_statements(nodes: &[u32], args: &[u32]) -> bool
     requires { AllNodes nodes.now args.now }
     ensures { (s : List ℕ) → result ≡ are_statements (arguments_at s nodes.now args.now) }
 {
-    let mut j: usize = 0;
-    while j < args.len() {
-        if !is_statement(nodes, args[j]) {
+    for arg in args {
+        if !is_statement(nodes, *arg) {
             return false;
         }
-        j += 1;
     }
     true
 }
@@ -149,12 +145,10 @@ fn greatest(
     ensures { GreatestIs nodes.now (placed at coeffs.now) (placed at keys.now) n result.value }
 {
     let mut sum = Value { value: 0 };
-    let mut i: usize = 0;
-    while i < n {
+    for i in 0..n {
         let one = greatest_at(nodes, coeffs, keys, slots, at, n, i);
         let value = integer::add(sum.value, one);
         sum = Value { value };
-        i += 1;
     }
     sum
 }
@@ -174,9 +168,8 @@ fn reach(nodes: &[u32], ts: &[u32], constant: i64) -> bool
     ensures { ReachIs nodes.now ts.now constant result }
 {
     let mut ends = Ends { ones: 0, zeros: 0 };
-    let mut i: usize = 0;
-    while i < ts.len() {
-        match read_summand(nodes, ts[i]) {
+    for t in ts {
+        match read_summand(nodes, *t) {
             Summand::Refused(_) => {
                 return true;
             }
@@ -192,7 +185,6 @@ fn reach(nodes: &[u32], ts: &[u32], constant: i64) -> bool
                 }
             }
         }
-        i += 1;
     }
     if integer::at_most(constant, ends.ones) {
         return true;
@@ -205,9 +197,8 @@ fn other_terms(nodes: &[u32], ts: &[u32]) -> bool
     requires { AllNodes nodes.now ts.now }
     ensures { OtherIs nodes.now ts.now result }
 {
-    let mut i: usize = 0;
-    while i < ts.len() {
-        match read_summand(nodes, ts[i]) {
+    for t in ts {
+        match read_summand(nodes, *t) {
             Summand::Refused(_) => {
                 return true;
             }
@@ -217,7 +208,6 @@ fn other_terms(nodes: &[u32], ts: &[u32]) -> bool
                 }
             }
         }
-        i += 1;
     }
     false
 }

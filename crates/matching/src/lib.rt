@@ -264,12 +264,10 @@ pub fn all_names(nodes: &[u32], keys: &[u32], at: usize, n: usize) -> bool
     requires { Variables nodes.now (placed at keys.now) n × (at + n ≤ length keys.now) × (at ≤ max_place) × (n ≤ max_entries) }
     ensures { NamesAre nodes.now (placed at keys.now) n result }
 {
-    let mut i: usize = 0;
-    while i < n {
+    for i in 0..n {
         if !is_name(nodes, variable_of(keys[at + i])) {
             return false;
         }
-        i += 1;
     }
     true
 }

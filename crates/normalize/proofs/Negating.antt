@@ -34,22 +34,19 @@ vacant-all (suc n) zero = refl
 vacant-all (suc n) (suc k) = vacant-all n k
 
 -- ---- filling a block: the first k places have their entries, the others none
-pub record Filling (cs : List ℤ) (ks : List ℕ) (i m : ℕ) (block : List Struct) (k : ℕ) : Type 0 where
-  pub upto : k ≤ m
+pub record Filling (cs : List ℤ) (ks : List ℕ) (i : ℕ) (block : List Struct) (k : ℕ) : Type 0 where
   pub long : length block ≡ block_size
   pub filled : BlockIs cs ks i k block
 
-module _ {cs : List ℤ} {ks : List ℕ} {i m : ℕ} where
-  pub filling-none : {e : Struct} → e ≡ vacant → Filling cs ks i m (replicate block_size e) 0
+module _ {cs : List ℤ} {ks : List ℕ} {i : ℕ} where
+  pub filling-none : {e : Struct} → e ≡ vacant → Filling cs ks i (replicate block_size e) 0
   filling-none {e} h = rw h (record {
-    upto = omega arith;
     long = length-replicate block_size vacant;
     filled = record { here = λ k l. absurd (not-suc-le-zero l); behind = λ k l. vacant-all block_size k };
   })
 
-  pub filling-more : {block : List Struct} {k : ℕ} {e : Struct} → Filling cs ks i m block k → k < m → m ≤ block_size → e ≡ struct_of (get_or cs (i + k) (pos 0)) (get_or ks (i + k) 0) → Filling cs ks i m (set block k e) (k + 1)
-  filling-more {block} {k} {e} w h small q = record {
-    upto = omega arith;
+  pub filling-more : {block : List Struct} {k : ℕ} {e : Struct} → Filling cs ks i block k → k < block_size → e ≡ struct_of (get_or cs (i + k) (pos 0)) (get_or ks (i + k) 0) → Filling cs ks i (set block k e) (k + 1)
+  filling-more {block} {k} {e} w h q = record {
     long = length-set block k e ∙ w.long;
     filled = record {
       here = λ j l. elim (dec_lt j k) [
@@ -60,35 +57,20 @@ module _ {cs : List ℤ} {ks : List ℕ} {i m : ℕ} where
     };
   }
 
-  pub filling_end : {block : List Struct} {k : ℕ} → Filling cs ks i m block k → m ≤ k → BlockIs cs ks i m block
-  filling_end {block} {k} w h = let z : k ≡ m = omega (arith, w.upto) in rw z at w.filled
-
 -- ---- putting it back: the first k coefficients stand in their places, no others changed
-pub record Putting (cs : List ℤ) (i m : ℕ) (block : List Struct) (cs' : List ℤ) (k : ℕ) : Type 0 where
-  pub upto : k ≤ m
-  pub coeffs : length cs' ≡ length cs
-  pub put : PutIs cs i k block cs'
+module _ {cs : List ℤ} {i : ℕ} {block : List Struct} where
+  pub putting-none : PutIs cs i 0 block cs
+  putting-none = record { here = λ k l. absurd (not-suc-le-zero l); before = λ j l. refl; behind = λ j l. refl }
 
-module _ {cs : List ℤ} {i m : ℕ} {block : List Struct} where
-  pub putting-none : Putting cs i m block cs 0
-  putting-none = record { upto = omega arith; coeffs = refl; put = record { here = λ k l. absurd (not-suc-le-zero l); before = λ j l. refl; behind = λ j l. refl } }
-
-  pub putting-more : {cs' : List ℤ} {k : ℕ} {c : ℤ} → Putting cs i m block cs' k → k < m → i + m ≤ length cs → c ≡ (get_or block k vacant).coefficient → Putting cs i m block (set cs' (i + k) c) (k + 1)
-  putting-more {cs'} {k} {c} w h room q = record {
-    upto = omega arith;
-    coeffs = length-set cs' (i + k) c ∙ w.coeffs;
-    put = record {
-      here = λ j l. elim (dec_lt j k) [
-        | yes lt ↦ get_or-set_other cs' (i + k) (i + j) c (pos 0) (λ z. omega arith) ∙ w.put.here j lt
-        | no ge ↦ let z : j ≡ k = omega arith in rw z (get_or-set_same cs' (i + k) c (pos 0) (omega (arith, w.coeffs)) ∙ q)
-      ];
-      before = λ j l. get_or-set_other cs' (i + k) j c (pos 0) (λ z. omega arith) ∙ w.put.before j l;
-      behind = λ j l. get_or-set_other cs' (i + k) j c (pos 0) (λ z. omega arith) ∙ w.put.behind j (omega arith);
-    };
+  pub putting-more : {cs' : List ℤ} {k : ℕ} {c : ℤ} → PutIs cs i k block cs' → i + k < length cs' → c ≡ (get_or block k vacant).coefficient → PutIs cs i (k + 1) block (set cs' (i + k) c)
+  putting-more {cs'} {k} {c} w room q = record {
+    here = λ j l. elim (dec_lt j k) [
+      | yes lt ↦ get_or-set_other cs' (i + k) (i + j) c (pos 0) (λ z. omega arith) ∙ w.here j lt
+      | no ge ↦ let z : j ≡ k = omega arith in rw z (get_or-set_same cs' (i + k) c (pos 0) room ∙ q)
+    ];
+    before = λ j l. get_or-set_other cs' (i + k) j c (pos 0) (λ z. omega arith) ∙ w.before j l;
+    behind = λ j l. get_or-set_other cs' (i + k) j c (pos 0) (λ z. omega arith) ∙ w.behind j (omega arith);
   }
-
-  pub putting_end : {cs' : List ℤ} {k : ℕ} → Putting cs i m block cs' k → m ≤ k → PutIs cs i m block cs'
-  putting_end {cs'} {k} w h = let z : k ≡ m = omega (arith, w.upto) in rw z at w.put
 
 -- ---- a block of numerals can be negated
 all-turn : (es : List Struct) → ((k : ℕ) → Within max_numeral (get_or es k vacant).coefficient) → AllTurn es

@@ -116,8 +116,5 @@ module _ (s : List ℕ) (i p n : ℕ) (q : i + gap (place_of p) (drop i s) ≡ n
   pub skip-more : (r : ℕ) → i < length s → passed (place_of p) (get_or s i 0) ≡ true → place_of r ≡ next_place (place_of p) (get_or s i 0) → i + 1 + gap (place_of r) (drop (i + 1) s) ≡ n
   skip-more r h e k = rw k (omega (arith, gap-go (place_of p) s i h e))
 
-  pub skip_end : length s ≤ i → i ≡ n
-  skip_end h = omega (arith, gap-end (place_of p) s i h)
-
-pub skip-start : (s : List ℕ) (at p : ℕ) → place_of p ≡ place_at s at → at + gap (place_of p) (drop at s) ≡ at + gap (place_at s at) (drop at s)
-skip-start s at p e = rw e
+  pub skip_end : i ≡ length s → length s ≡ n
+  skip_end h = omega (arith, gap-end (place_of p) s i (omega arith))

@@ -15,7 +15,7 @@ ghost use Rattle.opb.specs.Tokens.{relation_of, opb_token_of, OpbPlaced, Means, 
 
 use lexer::{
     BAD_BYTE, BAD_NUMERAL, BAD_WORD, CLOSES, MAX_NAME, MAX_NUMERAL, OPENS, behind_blanks, class,
-    in_word, is_blank, is_digit, magnitude, same,
+    in_word, is_blank, is_digit, magnitude, run_end, same,
 };
 
 // What an objective is refused by, and what stands where it may not.
@@ -83,14 +83,7 @@ fn digits_end(text: &[u8], at: usize) -> usize
     requires { at ≤ length text.now }
     ensures { (result ≡ at + span is_digit (drop at text.now)) × (result ≤ length text.now) }
 {
-    let mut i = at;
-    while i < text.len() {
-        if !is_digit(text[i]) {
-            return i;
-        }
-        i += 1;
-    }
-    i
+    run_end(text, at, |b| is_digit(b))
 }
 
 // The end of the word that goes on at `at`.
@@ -98,14 +91,7 @@ fn word_end(text: &[u8], at: usize) -> usize
     requires { at ≤ length text.now }
     ensures { (result ≡ at + span in_opb_word (drop at text.now)) × (result ≤ length text.now) }
 {
-    let mut i = at;
-    while i < text.len() {
-        if !in_opb_word(text[i]) {
-            return i;
-        }
-        i += 1;
-    }
-    i
+    run_end(text, at, |b| in_opb_word(b))
 }
 
 // ---- comments
@@ -161,16 +147,14 @@ pub fn behind_comments(text: &[u8], at: usize) -> usize
     ensures { (result ≡ at + gap (place_at text.now at) (drop at text.now)) × (at ≤ result) × (result ≤ length text.now) }
 {
     let mut place = place_at(text, at);
-    let mut i = at;
-    while i < text.len() {
+    for i in at..text.len() {
         let b = text[i];
         if !passes(place, b) {
             return i;
         }
         place = next_place(place, b);
-        i += 1;
     }
-    i
+    text.len()
 }
 
 // ---- words

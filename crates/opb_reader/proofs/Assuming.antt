@@ -1,5 +1,5 @@
 -- One assumption more in the tables: its nodes, its words and its id.
-use mathlib.Core.Path.{◌≡◌, refl, sym, ap, ap₂, subst, ◌∙◌}
+use mathlib.Core.Path.{◌≡◌, sym, ap, ap₂, subst, ◌∙◌}
 use mathlib.Core.Bool.{Bool, true, false}
 use mathlib.Core.List.{List, [], ◌∷◌, ◌++◌, map, append_assoc, append-nil}
 use Prim.Native.Nat.{ℕ, zero, suc, ◌+◌, ◌-◌, ◌*◌, ◌≤◌, ◌<◌}
@@ -200,16 +200,11 @@ module _ {j a t w v y : List ℕ} {b q k n : ℕ} {negative : Bool} {magnitude :
         assumption-put {from = b + f} {to = b + g} A.standing few P Q X up id-room near is (term-nodes j a d q (signed negative magnitude)) v' long
 
 -- ---- one assumption after another
--- the first i assumptions of a constraint stand in the tables u and x; the lent slices are as long as before
-pub record Partly (j a t u w x v v' y y' : List ℕ) (e : Bool) (q : ℕ) (z : ℤ) (k n i m : ℕ) : Type 0 where
-  pub standing : Standing j u x v' y' (k + i) m
+-- the first i assumptions of a constraint stand in the tables u and x
+pub record Partly (j a t u w x v y : List ℕ) (e : Bool) (q : ℕ) (z : ℤ) (k n i m : ℕ) : Type 0 where
+  pub standing : Standing j u x v y (k + i) m
   pub more : commands_of j u x (k + i) ≡ commands_of j t w k ++ take i (assumptions_of k (compare (summands_of j a q) (relation_of e) z))
   pub size : m ≡ n + i * inequality_nodes q (negations (summands_of j a q))
-  pub most : i ≤ resulting (relation_of e)
-  pub table : length u ≡ length t
-  pub words : length x ≡ length w
-  pub stack : length v' ≡ length v
-  pub tags : length y' ≡ length y
 
 -- assumption i of a constraint: the second has all signs turned
 next_of : (e : Bool) (k i : ℕ) (ss : List Summand) (z : ℤ) → i < resulting (relation_of e)
@@ -247,21 +242,16 @@ at_most_two true = omega arith
 at_most_two false = omega arith
 
 module _ {j a t w v y : List ℕ} {b q k n : ℕ} {negative : Bool} {magnitude : ℕ} (e : Bool) (A : Assuming j a t w v y b q negative magnitude k n (resulting (relation_of e))) where
-  pub partly-start : (z : ℤ) → Partly j a t t w w v v y y e q z k n 0 n
+  pub partly-start : (z : ℤ) → Partly j a t t w w v y e q z k n 0 n
   partly-start z =
       let same : k + 0 ≡ k = omega arith in
       record {
         standing = rw same A.standing;
         more = rw same (sym (append-nil (commands_of j t w k)));
         size = omega arith;
-        most = omega arith;
-        table = refl;
-        words = refl;
-        stack = refl;
-        tags = refl;
       }
 
-  module _ {u x v' y' : List ℕ} {i m : ℕ} {z : ℤ} (P : Partly j a t u w x v v' y y' e q z k n i m) where
+  module _ {u x v' y' : List ℕ} {i m : ℕ} {z : ℤ} (P : Partly j a t u w x v' y' e q z k n i m) where
     module _ (h : i < resulting (relation_of e)) where
       -- there is room for the next
       pub partly_asks : Assuming j a u x v' y' b q negative magnitude (k + i) m 1
@@ -275,8 +265,8 @@ module _ {j a t w v y : List ℕ} {b q k n : ℕ} {negative : Bool} {magnitude :
         room = one-more-room (resulting (relation_of e)) i _ n m max_nodes (at_most_two e) h P.size A.room;
       }
 
-      pub partly_more : {u' x' v'' y'' : List ℕ} {m' : ℕ} → AssumptionPut j a u u' x x' v'' y'' (eqb i 1) q z (k + i) m m' → length u' ≡ length u → length x' ≡ length x → length v'' ≡ length v' → length y'' ≡ length y' → Partly j a t u' w x' v v'' y y'' e q z k n (i + 1) m'
-      partly_more {u'} {x'} {v''} {y''} {m'} B long same stack tags =
+      pub partly_more : {u' x' v'' y'' : List ℕ} {m' : ℕ} → AssumptionPut j a u u' x x' v'' y'' (eqb i 1) q z (k + i) m m' → Partly j a t u' w x' v'' y'' e q z k n (i + 1) m'
+      partly_more {u'} {x'} {v''} {y''} {m'} B =
           let next : k + i + 1 ≡ k + (i + 1) = omega arith in
           record {
             standing = subst (λ (p : ℕ). Standing j u' x' v'' y'' p m') next B.standing;
@@ -284,16 +274,10 @@ module _ {j a t w v y : List ℕ} {b q k n : ℕ} {negative : Bool} {magnitude :
                 ap (commands_of j u' x') (sym next) ∙ B.more ∙ ap (λ (cs : List Command). cs ++ (assume (constraint_id (suc (k + i))) (inequality (turned_if (eqb i 1) (summands_of j a q)) (turned_number (eqb i 1) z)) ∷ [])) P.more
                 ∙ append_assoc (commands_of j t w k) _ _ ∙ ap (λ (cs : List Command). commands_of j t w k ++ cs) (sym (next_of e k i (summands_of j a q) z h));
             size = one-more-size i _ n m m' (omega (arith, at_most_two e)) P.size B.size;
-            most = omega arith;
-            table = long ∙ P.table;
-            words = same ∙ P.words;
-            stack = stack ∙ P.stack;
-            tags = tags ∙ P.tags;
           }
 
-    pub partly_end : resulting (relation_of e) ≤ i → ConstraintPut j a t u w x v' y' e q z k n m
-    partly_end h =
-        let same : i ≡ resulting (relation_of e) = omega (arith, P.most) in
+    pub partly_end : i ≡ resulting (relation_of e) → ConstraintPut j a t u w x v' y' e q z k n m
+    partly_end same =
         record {
           standing = subst (λ (p : ℕ). Standing j u x v' y' (k + p) m) same P.standing;
           more = ap (λ (p : ℕ). commands_of j u x (k + p)) (sym same) ∙ P.more ∙ ap (λ (cs : List Command). commands_of j t w k ++ cs) (all_of e k i (summands_of j a q) z same);

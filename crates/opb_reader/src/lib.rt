@@ -98,10 +98,8 @@ fn put_constraint(
     requires { Assuming string.now summands.now nodes.old commands.old pending.old names.old ids count negative magnitude k n (resulting (relation_of equal)) }
     ensures { ConstraintPut string.now summands.now nodes.old nodes.new commands.old commands.new pending.new names.new equal count (signed negative magnitude) k n result }
 {
-    let more = resulting(equal);
-    let mut j = 0;
     let mut m = n;
-    while j < more {
+    for j in 0..resulting(equal) {
         m = put_assumption(
             string,
             ids,
@@ -117,7 +115,6 @@ fn put_constraint(
             k + j,
             m,
         );
-        j += 1;
     }
     m
 }

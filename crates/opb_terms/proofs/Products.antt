@@ -6,7 +6,7 @@ use Prim.Native.Nat.{ℕ, suc, ◌+◌, ◌-◌, ◌*◌, ◌≤◌, ◌<◌}
 use native.Mathlib.Omega.{arith}
 use borrow.Author.Tests.{eqb-true}
 use lib.Dec.{eqb}
-use lib.ListN.{length, get_or, take, set, length-set}
+use lib.ListN.{length, get_or, take, set}
 use lib.Seq.{slice, get_or-set_same, take-suc-set}
 use Rattle.integer.specs.Integers.{signed}
 use Rattle.calculus.specs.Equality.{op_of}
@@ -137,72 +137,52 @@ module _ {s a : List ℕ} {i : ℕ} (S : SummandIn s a i) where
 words_step : (n c m i r : ℕ) → n + i ≤ m → m < r → words_behind m (c + (m - n) - i) r ≡ c + (r - n) - (i + 1)
 words_step n c m i r h g = omega arith
 
--- the first i summands are made
-pub record Inv (s a t₀ v₀ y₀ : List ℕ) (d : Bool) (q n c : ℕ) (t v y : List ℕ) (i m : ℕ) : Type 0 where
-  pub few : i ≤ q
-  pub long : length v ≡ length v₀
-  pub same : length y ≡ length y₀
-  pub made : ProductsPut s a t₀ t v y d i n c m
-
 module _ {s a t₀ v₀ y₀ : List ℕ} {d : Bool} {q n c : ℕ} (M : Making s a t₀ v₀ y₀ q n c (product_nodes s a q)) where
-  pub loop-start : Inv s a t₀ v₀ y₀ d q n c t₀ v₀ y₀ 0 n
+  pub loop-start : ProductsPut s a t₀ t₀ v₀ y₀ d 0 n c n
   unfolding Below turned_if turned summands_of negations
   loop-start =
       let z : c + (n - n) - 0 ≡ c = omega arith in
       record {
-        few = omega arith;
-        long = refl;
-        same = refl;
-        made = record {
-          size = omega arith;
-          grown = rw z record { kept = kept_refl t₀ n c; table = M.ready.table; names = M.ready.names; more = omega arith; wider = omega arith };
-          last = λ h. let z : ⊥ = omega arith in absurd z;
-          decoded = none d;
-          below = tt;
-        };
+        size = omega arith;
+        grown = rw z record { kept = kept_refl t₀ n c; table = M.ready.table; names = M.ready.names; more = omega arith; wider = omega arith };
+        last = λ h. let z : ⊥ = omega arith in absurd z;
+        decoded = none d;
+        below = tt;
       }
     where
       none : (d : Bool) → [] ≡ map summand_term (turned_if d [])
       none true = refl
       none false = refl
 
-  module _ {t v y : List ℕ} {i m : ℕ} (I : Inv s a t₀ v₀ y₀ d q n c t v y i m) (less : i < q) where
+  module _ {t v y : List ℕ} {i m : ℕ} (I : ProductsPut s a t₀ t v y d i n c m) (less : i < q) where
     pub loop-room : m + summand_nodes (negated_at a i) ≤ capacity t
-    loop-room = omega (arith, I.made.size, I.made.grown.kept.long, M.ready.room, products-room s a i q less)
+    loop-room = omega (arith, I.size, I.grown.kept.long, M.ready.room, products-room s a i q less)
 
     pub loop-ready : Ready s t y m (c + (m - n) - i) (summand_nodes (negated_at a i))
-    loop-ready = record { text = M.ready.text; table = I.made.grown.table; names = I.made.grown.names; room = loop-room }
+    loop-ready = record { text = M.ready.text; table = I.grown.table; names = I.grown.names; room = loop-room }
 
-    pub loop-more : {u z : List ℕ} (r : ℕ) → length z ≡ length y → r ≡ m + summand_nodes (negated_at a i)
+    pub loop-more : {u z : List ℕ} (r : ℕ) → length v ≡ length v₀ → r ≡ m + summand_nodes (negated_at a i)
         → TermPut s t u z m (c + (m - n) - i) r (words_behind m (c + (m - n) - i) r) (summand_term (turned_summand d (summand_at s a i)))
-        → Inv s a t₀ v₀ y₀ d q n c u (set v i (r - 1)) z (i + 1) r
+        → ProductsPut s a t₀ u (set v i (r - 1)) z d (i + 1) n c r
     unfolding summands_of
-    loop-more {u} {z} r same p P =
+    loop-more {u} {z} r long p P =
         let up : r - 1 + 1 ≡ r = omega (arith, P.some) in
         let under : r - 1 < r = omega (arith, P.some) in
         let e : i + 1 ≡ suc i = omega arith in
         let back : i + 1 - 1 ≡ i = omega arith in
-        let wide : i < length v = omega (arith, I.long, M.stack, I.made.size, loop-room) in
+        let wide : i < length v = omega (arith, long, M.stack, I.size, loop-room) in
         let S : take (i + 1) (set v i (r - 1)) ≡ take i v ++ ((r - 1) ∷ []) = rw e (take-suc-set v i (r - 1) wide) in
-        let w : words_behind m (c + (m - n) - i) r ≡ c + (r - n) - (i + 1) = words_step n c m i r (omega (arith, I.made.size)) P.some in
+        let w : words_behind m (c + (m - n) - i) r ≡ c + (r - n) - (i + 1) = words_step n c m i r (omega (arith, I.size)) P.some in
         record {
-          few = omega arith;
-          long = length-set v i (r - 1) ∙ I.long;
-          same = same ∙ I.same;
-          made = record {
-            size = omega (arith, products-more s a i, I.made.size);
-            grown = record {
-              kept = kept_trans I.made.grown.kept P.grown.kept I.made.grown.more I.made.grown.wider;
-              table = rw (← w) P.grown.table;
-              names = P.grown.names;
-              more = omega (arith, I.made.grown.more, P.grown.more);
-              wider = omega (arith, I.made.size, P.some);
-            };
-            last = λ h. rw (back, get_or-set_same v i (r - 1) 0 wide) up;
-            decoded = rw (S, map-append (decode s u) (take i v) ((r - 1) ∷ []), map-kept I.made.grown.table P.grown.kept s (take i v) I.made.below, I.made.decoded, P.decoded, e, turned_more d (summands_of s a i) (summand_at s a i), map-append summand_term (turned_if d (summands_of s a i)) (turned_summand d (summand_at s a i) ∷ []));
-            below = rw S (below-snoc (take i v) (r - 1) (below_more (take i v) I.made.below P.grown.more) under);
+          size = omega (arith, products-more s a i, I.size);
+          grown = record {
+            kept = kept_trans I.grown.kept P.grown.kept I.grown.more I.grown.wider;
+            table = rw (← w) P.grown.table;
+            names = P.grown.names;
+            more = omega (arith, I.grown.more, P.grown.more);
+            wider = omega (arith, I.size, P.some);
           };
+          last = λ h. rw (back, get_or-set_same v i (r - 1) 0 wide) up;
+          decoded = rw (S, map-append (decode s u) (take i v) ((r - 1) ∷ []), map-kept I.grown.table P.grown.kept s (take i v) I.below, I.decoded, P.decoded, e, turned_more d (summands_of s a i) (summand_at s a i), map-append summand_term (turned_if d (summands_of s a i)) (turned_summand d (summand_at s a i) ∷ []));
+          below = rw S (below-snoc (take i v) (r - 1) (below_more (take i v) I.below P.grown.more) under);
         }
-
-  pub loop_end : {t v y : List ℕ} {i m : ℕ} → Inv s a t₀ v₀ y₀ d q n c t v y i m → q ≤ i → ProductsPut s a t₀ t v y d q n c m
-  loop_end {i = i} I h = let e : q ≡ i = omega (arith, I.few) in rw e I.made

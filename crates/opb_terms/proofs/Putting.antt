@@ -10,7 +10,7 @@ use Rattle.integer.specs.Integers.{signed}
 use Rattle.calculus.specs.Equality.{op_of}
 use Rattle.calculus.specs.Terms.{Term, num, var, app, listed}
 use Rattle.nodes.specs.Nodes.{capacity, plus_kind, minus_kind, name_kind, child_base, children_at, shape, decode, Below, Table, Kept, put}
-use Rattle.nodes.proofs.Copying.{copy-none, copy_more, copy-two}
+use Rattle.nodes.proofs.Copying.{copy-one, copy-two}
 use Rattle.nodes.proofs.Tables.{kept_trans, decode-kept, map-kept, table_kept, table-wider, shape-application, shape-plus, shape-minus, shape-name, New, put-kept, put-table, put-decode, paste-kept, paste-children}
 use Rattle.terms.specs.Names.{Names, VariablePut}
 use Rattle.terms.specs.Reading.{Grown}
@@ -20,11 +20,11 @@ use Rattle.opb_terms.specs.Making.{Numeral, TermPut, binary}
 -- ---- words of a table
 -- one child word
 pub paste-one : (t : List ℕ) (at i : ℕ) → at < length t → set t at i ≡ paste t at (i ∷ []) 1
-paste-one t at i h = copy_more t (i ∷ []) 0 at 1 0 t (copy-none t (i ∷ []) 0 at) (omega arith) (omega arith) (omega arith) (omega arith) at i (omega arith) refl (omega arith)
+paste-one t at i h = copy-one t (i ∷ []) at (omega arith) h i refl
 
 -- two of them
 paste-pair : (t : List ℕ) (at a b : ℕ) → at + 2 ≤ length t → set (set t at a) (at + 1) b ≡ paste t at (a ∷ b ∷ []) 2
-paste-pair t at a b h = copy-two t (a ∷ b ∷ []) 0 at (omega arith) h a b refl refl
+paste-pair t at a b h = copy-two t (a ∷ b ∷ []) at (omega arith) h a b refl refl
 
 -- the operator over two nodes, as the code writes it
 pub binary-is : (t : List ℕ) (m d o a b : ℕ) {r : List ℕ} → child_base t + d + 2 ≤ length t → r ≡ put (set (set t (child_base t + d) a) (child_base t + d + 1) b) m o d 2 → r ≡ binary t m d o a b

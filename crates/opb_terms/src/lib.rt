@@ -137,9 +137,8 @@ fn put_products(
     ensures { ProductsPut text.now summands.now nodes.old nodes.new pending.new names.new turned count n c result }
 {
     let base = child_base(nodes);
-    let mut i = 0;
     let mut m = n;
-    while i < count {
+    for i in 0..count {
         m = put_product(
             text,
             summands,
@@ -152,7 +151,6 @@ fn put_products(
             base,
         );
         pending[i] = (m - 1) as u16;
-        i += 1;
     }
     m
 }

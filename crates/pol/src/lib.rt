@@ -47,13 +47,11 @@ fn store(
     ensures { Stored coeffs.old keys.old from at n constant d coeffs.new keys.new }
 {
     let b = STACK + ENTRY * d;
-    let mut i = 0;
-    while i < n {
+    for i in 0..n {
         let c = coeffs[from + i];
         let key = keys[at + i];
         coeffs[b + i] = c;
         keys[b + i] = key;
-        i += 1;
     }
     coeffs[b + LITERALS] = constant;
     keys[b + LITERALS] = n as u32;
@@ -75,6 +73,7 @@ fn load(
     let b = STACK + ENTRY * e;
     let n = nodes::wide(keys[b + LITERALS]);
     let mut i = 0;
+    // while: each step is what `follow` answers
     while i < n {
         let key = keys[b + i];
         let c = coeffs[b + i];
@@ -103,12 +102,10 @@ fn all_in_range(coeffs: &[i64], from: usize, n: usize) -> bool
     requires { (from ≤ max_place) × (n ≤ max_entries) × (from + n ≤ length coeffs.now) }
     ensures { RangeIs (placed from coeffs.now) n result }
 {
-    let mut i = 0;
-    while i < n {
+    for i in 0..n {
         if !in_range(coeffs[from + i]) {
             return false;
         }
-        i += 1;
     }
     true
 }
@@ -227,11 +224,9 @@ fn map_entry(coeffs: &mut [i64], by: By, e: usize, n: usize)
     ensures { MappedAt (map_of by) coeffs.old e n coeffs.new }
 {
     let b = STACK + ENTRY * e;
-    let mut i = 0;
-    while i < n {
+    for i in 0..n {
         let a = rules::apply(by, coeffs[b + i]);
         coeffs[b + i] = a;
-        i += 1;
     }
     let constant = rules::apply(by, coeffs[b + LITERALS]);
     coeffs[b + LITERALS] = constant;

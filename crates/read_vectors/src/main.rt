@@ -39,10 +39,8 @@ fn put_short(rt: &impl Print, word: u16) {
 fn put_words(rt: &impl Print, words: &[u16], from: usize, to: usize)
     requires { to ≤ length words.now }
 {
-    let mut i = from;
-    while i < to {
+    for i in from..to {
         put_short(rt, words[i]);
-        i += 1;
     }
 }
 
@@ -50,13 +48,11 @@ fn put_words(rt: &impl Print, words: &[u16], from: usize, to: usize)
 fn put_commands(rt: &impl Print, commands: &[u16], k: usize)
     requires { (k ≤ max_commands) × (all_words ≤ length commands.now) }
 {
-    let mut i = 0;
-    while i < k {
+    for i in 0..k {
         put(rt, b"command");
         put_words(rt, commands, 2 * i, 2 * i + 2);
         put_words(rt, commands, ID_WORDS + 7 * i, ID_WORDS + 7 * i + 7);
         put(rt, b"\n");
-        i += 1;
     }
 }
 
@@ -64,14 +60,12 @@ fn put_commands(rt: &impl Print, commands: &[u16], k: usize)
 fn put_nodes(rt: &impl Print, nodes: &[u32], n: usize)
     requires { (n ≤ capacity nodes.now) × (capacity nodes.now ≤ max_capacity) }
 {
-    let mut i = 0;
-    while i < n {
+    for i in 0..n {
         put(rt, b"node");
         put_word(rt, nodes[3 * i]);
         put_word(rt, nodes[3 * i + 1]);
         put_word(rt, nodes[3 * i + 2]);
         put(rt, b"\n");
-        i += 1;
     }
 }
 
@@ -79,13 +73,11 @@ fn put_nodes(rt: &impl Print, nodes: &[u32], n: usize)
 fn put_children(rt: &impl Print, nodes: &[u32], c: usize)
     requires { (c ≤ capacity nodes.now) × (capacity nodes.now ≤ max_capacity) }
 {
-    let mut i = child_base(nodes);
-    let end = i + c;
-    while i < end {
+    let base = child_base(nodes);
+    for word in &nodes[base..base + c] {
         put(rt, b"child");
-        put_word(rt, nodes[i]);
+        put_word(rt, *word);
         put(rt, b"\n");
-        i += 1;
     }
 }
 

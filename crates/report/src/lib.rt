@@ -26,14 +26,9 @@ pub fn append(report: &mut [u8], at: usize, src: &[u8]) -> usize
     requires { at + length src.now ≤ length report.old }
     ensures { Wrote report.old at src.now report.new result }
 {
-    let mut j = 0;
-    let mut o = at;
-    while j < src.len() {
-        report[o] = src[j];
-        o += 1;
-        j += 1;
-    }
-    o
+    let end = at + src.len();
+    report[at..end].copy_from_slice(src);
+    end
 }
 
 // Writes one byte.
@@ -159,13 +154,11 @@ fn write_lines(
     ensures wrote { (ls : List Line) → LinesAre text.now commands.now numbers.now plains.now marks.now n ls → Wrote report.old 0 (lines_text ls) report.new result }
     ensures upper_bound { result ≤ line_room * n }
 {
-    let mut k = 0;
     let mut at = 0;
-    while k < n {
+    for k in 0..n {
         at = write_line(
             report, at, text, commands, k, numbers[k], plains[k], marks[k],
         );
-        k += 1;
     }
     at
 }
@@ -177,13 +170,11 @@ fn count_refused(numbers: &[u8], n: usize) -> usize
     ensures ls_value { (ls : List Line) → Counted numbers.now n ls → refused_in ls ≡ result }
     ensures upper_bound { result ≤ n }
 {
-    let mut k = 0;
     let mut refused = 0;
-    while k < n {
-        if numbers[k] != 0 {
+    for number in &numbers[..n] {
+        if *number != 0 {
             refused += 1;
         }
-        k += 1;
     }
     refused
 }

@@ -178,14 +178,12 @@ fn coefficients_are(
     requires listed { Listed nodes.now conclusion_at conclusion_at coeffs.now keys.now m }
     ensures { CoefficientsAre nodes.now (placed right_at coeffs.now) (placed left_at keys.now) n (placed conclusion_at coeffs.now) (placed conclusion_at keys.now) m result }
 {
-    let mut i: usize = 0;
-    while i < m {
+    for i in 0..m {
         let c = coeffs[CONCLUSION + i];
         let key = keys[CONCLUSION + i];
         if !coefficient_is(nodes, coeffs, keys, slots, n, c, key) {
             return false;
         }
-        i += 1;
     }
     true
 }
@@ -223,14 +221,12 @@ fn zeros_face_zeros(
     requires listed { Listed nodes.now conclusion_at conclusion_at coeffs.now keys.now m }
     ensures { ZerosFace nodes.now (placed right_at coeffs.now) (placed left_at keys.now) n (placed conclusion_at coeffs.now) (placed conclusion_at keys.now) m result }
 {
-    let mut i: usize = 0;
-    while i < m {
+    for i in 0..m {
         let c = coeffs[CONCLUSION + i];
         let key = keys[CONCLUSION + i];
         if !zero_faces_zero(nodes, coeffs, keys, slots, n, c, key) {
             return false;
         }
-        i += 1;
     }
     true
 }
@@ -391,12 +387,10 @@ fn coefficients_agree(
     requires keyed { Keyed nodes.now conclusion_at keys.now slots.now m × (conclusion_at + m ≤ length coeffs.now) }
     ensures { AllAgree nodes.now (map_of by) (placed left_at coeffs.now) (placed left_at keys.now) n (placed conclusion_at coeffs.now) (placed conclusion_at keys.now) m result }
 {
-    let mut i: usize = 0;
-    while i < n {
+    for i in 0..n {
         if !coefficient_agrees(nodes, by, coeffs, keys, slots, i, m) {
             return false;
         }
-        i += 1;
     }
     true
 }
@@ -603,12 +597,10 @@ pub fn nonnegative(coeffs: &[i64], at: usize, n: usize) -> bool
     requires { (at ≤ max_place) × (at + n ≤ length coeffs.now) × (n ≤ max_entries) }
     ensures { Nonnegative (placed at coeffs.now) n result }
 {
-    let mut i: usize = 0;
-    while i < n {
-        if integer::less(coeffs[at + i], 0) {
+    for c in &coeffs[at..at + n] {
+        if integer::less(*c, 0) {
             return false;
         }
-        i += 1;
     }
     true
 }

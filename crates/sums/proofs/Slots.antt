@@ -19,7 +19,7 @@ use Rattle.matching.specs.Matched.{Text, term, variable_of, negated_of, lit_at, 
 use Rattle.matching.specs.Entries.{run, entry_at, entries, Under}
 use Rattle.sums.specs.Lists.{index_of, OverName, Taken, Fine}
 use Rattle.sums.specs.Found.{SameIs, PlaceIs, FindIs}
-use Rattle.sums.proofs.Runs.{index-none, index-first, index-start, index-more, index-here, index-end}
+use Rattle.sums.proofs.Runs.{index-none, index-first, index-more, index-here, index-end}
 use Rattle.matching.proofs.Matches.{pair-nodes}
 
 pub and_true : (a : Bool) → a ≡ a && true
@@ -152,20 +152,16 @@ abbrev pub Walking : (t ks : List ℕ) → ℕ → ℕ → ℕ → Type 0
 Walking t ks n k i = (x : Text t) (cs : List ℤ) → Under x.n ks n → variable_of k < x.n
     → index_of (lit_at (term x) k) (entries (term x) cs ks n) ≡ i + index_of (lit_at (term x) k) (run (entry_at (term x) cs ks) i (n - i))
 
-module _ (t ks : List ℕ) (n k : ℕ) where
-  pub walk_start : (i : ℕ) → i ≡ 0 → Walking t ks n k i
-  walk_start i e x cs under a = rw e (index-start (lit_at (term x) k) (entry_at (term x) cs ks) n)
+module _ (t ks : List ℕ) (n k : ℕ) (i : ℕ) (W : Walking t ks n k i) where
+  module _ (l : i < n) {o : ℕ} (e : get_or ks i 0 ≡ o) {r : Bool} where
+    here : SameIs t k o r → (x : Text t) → Under x.n ks n → variable_of k < x.n → same_lit (lit_at (term x) k) (lit_at (term x) (get_or ks i 0)) ≡ r
+    here S x under a = rw e (sym (S x a (rw (← e) (under i l))))
 
-  module _ (i : ℕ) (W : Walking t ks n k i) where
-    module _ (l : i < n) {o : ℕ} (e : get_or ks i 0 ≡ o) {r : Bool} where
-      here : SameIs t k o r → (x : Text t) → Under x.n ks n → variable_of k < x.n → same_lit (lit_at (term x) k) (lit_at (term x) (get_or ks i 0)) ≡ r
-      here S x under a = rw e (sym (S x a (rw (← e) (under i l))))
+    pub walk_more : r ≡ false → SameIs t k o r → Walking t ks n k (i + 1)
+    walk_more f S x cs under a = index-more (lit_at (term x) k) (entry_at (term x) cs ks) i n _ l (here S x under a ∙ f) (W x cs under a)
 
-      pub walk_more : r ≡ false → SameIs t k o r → Walking t ks n k (i + 1)
-      walk_more f S x cs under a = index-more (lit_at (term x) k) (entry_at (term x) cs ks) i n _ l (here S x under a ∙ f) (W x cs under a)
+    pub walk_here : r ≡ true → SameIs t k o r → PlaceIs t ks n k i × (i ≤ n)
+    walk_here f S = ((λ x cs under a. sym (index-here (lit_at (term x) k) (entry_at (term x) cs ks) i n _ l (here S x under a ∙ f) (W x cs under a))), omega arith)
 
-      pub walk_here : r ≡ true → SameIs t k o r → PlaceIs t ks n k i × (i ≤ n)
-      walk_here f S = ((λ x cs under a. sym (index-here (lit_at (term x) k) (entry_at (term x) cs ks) i n _ l (here S x under a ∙ f) (W x cs under a))), omega arith)
-
-    pub walk_end : n ≤ i → i ≤ n → PlaceIs t ks n k i × (i ≤ n)
-    walk_end l m = ((λ x cs under a. sym (index-end (lit_at (term x) k) (entry_at (term x) cs ks) i n _ l (W x cs under a))), m)
+  pub walk_end : i ≡ n → PlaceIs t ks n k n × (n ≤ n)
+  walk_end e = ((λ x cs under a. sym (index-end (lit_at (term x) k) (entry_at (term x) cs ks) i n _ (omega arith) (W x cs under a) ∙ e)), omega arith)

@@ -56,14 +56,12 @@ fn walk(nodes: &[u32], keys: &[u32], at: usize, n: usize, key: u32) -> usize
     requires literals { Literals nodes.now (placed at keys.now) n × (at + n ≤ length keys.now) × (at ≤ max_place) × (n ≤ max_entries) }
     ensures { PlaceIs nodes.now (placed at keys.now) n key result × (result ≤ n) }
 {
-    let mut i: usize = 0;
-    while i < n {
+    for i in 0..n {
         if same_literal(nodes, key, keys[at + i]) {
             return i;
         }
-        i += 1;
     }
-    i
+    n
 }
 
 // Where the slots of a place begin: the first premise has its own, the second the conclusion's, which is read behind it.
@@ -230,9 +228,8 @@ fn read_summands(
     ensures { ReadAt nodes.now top (λ (s : List ℕ). summands (listed (map (decode s nodes.now) ts.now)) []) at coeffs.old keys.old slots.old coeffs.new keys.new slots.new result }
 {
     let mut n: usize = 0;
-    let mut i: usize = 0;
-    while i < ts.len() {
-        match read_summand(nodes, ts[i]) {
+    for t in ts {
+        match read_summand(nodes, *t) {
             Summand::Refused(number) => {
                 return Read { number, count: n };
             }
@@ -240,7 +237,6 @@ fn read_summands(
                 n = put(nodes, coeffs, keys, slots, at, n, key, c);
             }
         }
-        i += 1;
     }
     Read {
         number: 0,
@@ -387,12 +383,10 @@ pub fn assert_pbsum_subset_keys(
     requires keyed { Keyed nodes.now at2 keys.now slots.now m }
     ensures { SubsetIs nodes.now (placed from coeffs.now) (placed at keys.now) n (placed at2 keys.now) m result }
 {
-    let mut i: usize = 0;
-    while i < n {
+    for i in 0..n {
         if !key_kept(nodes, coeffs, keys, slots, from, at, i, at2, m) {
             return false;
         }
-        i += 1;
     }
     true
 }
@@ -440,12 +434,10 @@ pub fn add_pbsums(
     ensures { AddAt nodes.now at coeffs.old keys.old slots.old n at2 m coeffs.new keys.new slots.new result }
 {
     let mut k = n;
-    let mut i: usize = 0;
-    while i < m {
+    for i in 0..m {
         let key = keys[at2 + i];
         let c = coeffs[at2 + i];
         k = put(nodes, coeffs, keys, slots, at, k, key, c);
-        i += 1;
     }
     k
 }
@@ -522,14 +514,12 @@ pub fn reduce_pbsum(
     ensures { ReduceIs nodes.now (placed at coeffs.old) (placed at keys.now) n (placed into coeffs.new) result.slack × Others into coeffs.old coeffs.new }
 {
     let mut total = Slack { slack: 0 };
-    let mut i: usize = 0;
-    while i < n {
+    for i in 0..n {
         let one = cancel(nodes, coeffs, keys, slots, at, n, i);
         let kept = one.kept;
         let slack = integer::add(total.slack, one.slack);
         coeffs[into + i] = kept;
         total = Slack { slack };
-        i += 1;
     }
     total
 }

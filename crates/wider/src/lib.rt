@@ -14,11 +14,7 @@ fn copy_words(nodes: &[u32], wider: &mut [u32], from: usize, to: usize, count: u
     requires { (from + count ≤ length nodes.now) × (to + count ≤ length wider.old) }
     ensures { Copied nodes.now wider.old from to count wider.new }
 {
-    let mut i = 0;
-    while i < count {
-        wider[to + i] = nodes[from + i];
-        i += 1;
-    }
+    wider[to..to + count].copy_from_slice(&nodes[from..from + count]);
 }
 
 // Copies the n nodes and c child words in use to a larger table.
@@ -37,13 +33,11 @@ pub fn index_names(text: &[u8], nodes: &[u32], names: &mut [u16], n: usize)
     requires { (capacity nodes.now ≤ max_capacity) × (n ≤ capacity nodes.now) × Firsts nodes.now n × Named text.now nodes.now n × (name_words nodes.now ≤ length names.old) }
     ensures { Names text.now nodes.now names.new n }
 {
-    let mut k = 0;
-    while k < n {
+    for k in 0..n {
         if kind_of(nodes, k) == NAME_KIND + k as u32 {
             let h = hash(text, first_of(nodes, k), second_of(nodes, k));
             enter(names, 0, k, h);
         }
-        k += 1;
     }
 }
 
@@ -52,9 +46,7 @@ pub fn leave_names(text: &[u8], nodes: &[u32], names: &mut [u16], n: usize, m: u
     requires { (capacity nodes.now ≤ max_capacity) × (n ≤ m) × (m ≤ capacity nodes.now) × Names text.now nodes.now names.old m × AllFirst nodes.now n m }
     ensures { Names text.now nodes.now names.new n }
 {
-    let mut k = m;
-    while k > n {
-        k -= 1;
+    for k in (n..m).rev() {
         let h = hash(text, first_of(nodes, k), second_of(nodes, k));
         leave(names, 0, k, h);
     }

@@ -1,15 +1,14 @@
--- `cutting_planes::append` owes, after an iteration, one byte more: what is stored has kept the slice's length, so there is room.
-use Rattle.std.proofs.Common.{arith, length, ◌≡◌, ap, ◌∙◌}
-use lib.Seq.{length-paste}
-use Rattle.cutting_planes.proofs.Sizes.{stored_more}
+-- `cutting_planes::append` owes what it stores: the first bytes of src, copied over the part that begins at `at`, all of them or as many as there is room for.
+use Rattle.std.proofs.Common.{arith, rules, refl}
+use Rattle.std.proofs.lemmas.Slice.{overwrites}
 use Rattle.cutting_planes.proofs.append.Goals as goal
 
-pub loop-j-preserved : goal.loop-j-preserved
-loop-j-preserved c =
-    let l : length c.loop-j.text ≡ length c.args.text.now =
-    ap length c.loop-j.invariant.0 ∙ length-paste c.args.text.now c.args.at c.args.src.now c.loop-j.j (omega arith) (omega arith) in (
-      stored_more c.args.text.now c.args.src.now c.loop-j.text c.args.at c.loop-j.j c.loop-j.o c.loop-j.invariant.0 (omega arith) (omega arith) (omega arith),
-      omega arith,
-      omega arith,
-      omega arith,
-    )
+pub returns : goal.returns
+returns c = record {
+  count = c.min-count.result;
+  within = omega arith;
+  next = refl;
+  room = omega arith;
+  all = λ h. omega arith;
+  bytes = rw c.copy_from_slice.ensures.after (search (rules, overwrites));
+}

@@ -1,35 +1,16 @@
 -- `ending::name_before` owes byte order. The loop keeps that the rests from i and from j on answer for the whole. Assumes nothing.
-use mathlib.Core.Path.{refl}
 use native.Mathlib.Omega.{arith}
 use Rattle.ending.proofs.Naming.{before-shorter, before-differ, before_more, before-end}
 use Rattle.ending.proofs.name_before.Goals as goal
 
-pub loop-j-init : goal.loop-j-init
-loop-j-init c = (omega arith, omega arith, refl)
-
 pub returns-then-i-b : goal.returns-then-i-b
-returns-then-i-b c = before-shorter c.args.text.now c.args.b c.args.d c.loop-j.i c.loop-j.j _ c.loop-j.invariant.2 (omega arith) (omega arith) (omega arith) (omega arith)
-
-pub bounds-text-i : goal.bounds-text-i
-bounds-text-i c = omega arith
-
-pub bounds-text-j : goal.bounds-text-j
-bounds-text-j c = omega arith
+returns-then-i-b c = before-shorter c.args.text.now c.args.b c.args.d c.loop-j.i c.loop-j.j _ c.loop-j.invariant.1 (omega arith) (omega arith) (omega arith) (omega arith)
 
 pub returns-then-x-y : goal.returns-then-x-y
-returns-then-x-y c = before-differ c.args.text.now c.args.b c.args.d c.loop-j.i c.loop-j.j _ c.loop-j.invariant.2 (omega arith) (omega arith) (omega arith) (omega arith) c.if-x-y.true
-
-pub overflow_add-i : goal.overflow_add-i
-overflow_add-i c = omega arith
-
-pub overflow_add-j : goal.overflow_add-j
-overflow_add-j c = omega arith
-
-pub loop-j-smaller : goal.loop-j-smaller
-loop-j-smaller c = omega arith
+returns-then-x-y c = before-differ c.args.text.now c.args.b c.args.d c.loop-j.i c.loop-j.j _ c.loop-j.invariant.1 (omega arith) (omega arith) (omega arith) (omega arith) c.if-x-y.true
 
 pub loop-j-preserved : goal.loop-j-preserved
-loop-j-preserved c = (omega arith, omega arith, before_more c.args.text.now c.args.b c.args.d c.loop-j.i c.loop-j.j _ c.loop-j.invariant.2 (omega arith) (omega arith) (omega arith) (omega arith) c.if-x-y.false)
+loop-j-preserved c = (omega arith, before_more c.args.text.now c.args.b c.args.d c.loop-j.i c.loop-j.j _ c.loop-j.invariant.1 (omega arith) (omega arith) (omega arith) (omega arith) c.if-x-y.false)
 
 pub returns : goal.returns
-returns c = before-end c.args.text.now c.args.b c.args.d c.loop-j.i c.loop-j.j _ c.loop-j.invariant.2 (omega arith) (omega arith) (omega arith)
+returns c = before-end c.args.text.now c.args.b c.args.d c.loop-j.i c.loop-j.j _ c.loop-j.invariant.1 (omega arith) (omega arith) (omega arith)

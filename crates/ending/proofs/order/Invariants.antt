@@ -3,6 +3,3 @@ use Rattle.ending.proofs.order.Given as goal
 
 abbrev pub invariant-loop-i : goal.invariant-loop-i
 invariant-loop-i l = Ordering l.text l.nodes l.initial.coeffs l.initial.keys l.r l.coeffs l.keys l.i
-
-abbrev pub decreases-loop-i : goal.decreases-loop-i
-decreases-loop-i l = l.i

@@ -1,4 +1,4 @@
--- `entries::negate_sum` owes the sum with each entry negated: the first i are, the rest are as they were. Assumes nothing.
+-- `entries::negate_sum` owes the sum with each entry negated: those before the index are, the rest are as they were. Assumes nothing.
 use Rattle.std.proofs.Common.{arith, ◌∙◌, sym, subst, ap, refl}
 use lib.ListN.{set}
 use mathlib.Core.List.{List}
@@ -7,20 +7,18 @@ use Rattle.entries.specs.Entries.{Turns, negated}
 use Rattle.entries.proofs.Partly.{partly, partly_turns, partly_more, partly-all, entry_at}
 use Rattle.entries.proofs.negate_sum.Goals as goal
 
-pub loop-i-init : goal.loop-i-init
+pub loop-entry-init : goal.loop-entry-init
 unfolding partly
-loop-i-init c = (omega arith, refl)
+loop-entry-init c = refl
 
 pub negate_ctv-requires : goal.negate_ctv-requires
-negate_ctv-requires c = subst (λ (l : List Entry). Turns (entry_at l c.loop-i.i).coefficient) (sym c.loop-i.invariant.1) (partly_turns c.loop-i.i c.args.sum.now c.requires (omega (arith, c.loop-i.auto.sum, c.loop-i-test.true)))
+negate_ctv-requires c = subst (λ (l : List Entry). Turns (entry_at l c.loop-entry.entry-index).coefficient) (sym c.loop-entry.invariant) (partly_turns c.loop-entry.entry-index c.args.sum.now c.requires (omega arith))
 
-pub loop-i-preserved : goal.loop-i-preserved
-loop-i-preserved c = (
-  omega (arith, c.loop-i.auto.sum, c.loop-i-test.true),
-  ap (λ (e : Entry). set c.loop-i.sum c.loop-i.i e) c.negate_ctv.ensures
-      ∙ ap (λ (l : List Entry). set l c.loop-i.i (negated (entry_at l c.loop-i.i))) c.loop-i.invariant.1
-      ∙ partly_more c.loop-i.i c.args.sum.now (omega (arith, c.loop-i.auto.sum, c.loop-i-test.true)),
-)
+pub loop-entry-preserved : goal.loop-entry-preserved
+loop-entry-preserved c =
+    ap (λ (e : Entry). set c.loop-entry.sum c.loop-entry.entry-index e) c.negate_ctv.ensures
+    ∙ ap (λ (l : List Entry). set l c.loop-entry.entry-index (negated (entry_at l c.loop-entry.entry-index))) c.loop-entry.invariant
+    ∙ partly_more c.loop-entry.entry-index c.args.sum.now (omega arith)
 
 pub returns : goal.returns
-returns c = c.loop-i.invariant.1 ∙ partly-all c.loop-i.i c.args.sum.now (omega (arith, c.loop-i.auto.sum, c.loop-i-test.false))
+returns c = c.loop-entry.invariant ∙ partly-all c.loop-entry.entry-index c.args.sum.now (omega arith)

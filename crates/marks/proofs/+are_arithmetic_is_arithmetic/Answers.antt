@@ -6,43 +6,28 @@ use Rattle.calculus.specs.Truth.{is_arithmetic, are_arithmetic}
 use Rattle.nodes.specs.Nodes.{plus_kind, kind_at}
 use Rattle.nodes.proofs.Tables.{children-room}
 use Rattle.matching.proofs.Matches.{node-room}
-use Rattle.marks.proofs.Arguments.{children-nodes, children-end, children-inside, children-part, left-node, left_below, left-start, left-more, left-stop, left_end}
+use Rattle.marks.proofs.Arguments.{children-nodes, children-end, children-inside, children-part, left-node, left_below, left-more, left-stop, left_end}
 use Rattle.marks.proofs.Statements.{arithmetic-none, arithmetic-more, arithmetic-leaf, arithmetic-other, arithmetic-all}
 use Rattle.marks.proofs.+are_arithmetic_is_arithmetic.Goals as goal
 use Rattle.marks.proofs.+are_arithmetic_is_arithmetic.Goals.{are_arithmetic-then-kind_of-lt-PLUS_KIND+else-not-is_arithmetic, are_arithmetic-else-kind_of-lt-PLUS_KIND}
 
-pub are_arithmetic-loop-k-init : goal.are_arithmetic-loop-k-init
-are_arithmetic-loop-k-init t c = left-start is_arithmetic are_arithmetic arithmetic-none arithmetic-more _ _ _
-
-pub are_arithmetic-offset_bounds-nodes-k : goal.are_arithmetic-offset_bounds-nodes-k
-are_arithmetic-offset_bounds-nodes-k t c = omega (arith, c.loop-k-test.true, c.requires.0)
-
-pub are_arithmetic-bounds-nodes-k : goal.are_arithmetic-bounds-nodes-k
-are_arithmetic-bounds-nodes-k t c = omega (arith, c.loop-k-test.true, c.requires.0)
-
 pub are_arithmetic-kind_of-requires : goal.are_arithmetic-kind_of-requires
-are_arithmetic-kind_of-requires t c = omega (arith, c.wide.ensures, node-room (left-node c.loop-k.invariant c.requires.0 c.loop-k-test.true c.requires.1))
+are_arithmetic-kind_of-requires t c = omega (arith, c.wide.ensures, node-room (left-node c.loop-k.invariant c.requires.0 (omega arith) c.requires.1))
 
 pub are_arithmetic-is_arithmetic-requires : goal.are_arithmetic-is_arithmetic-requires
-are_arithmetic-is_arithmetic-requires t c = (omega (arith, c.decreases, left_below c.loop-k.invariant c.requires.0 c.loop-k-test.true), (left-node c.loop-k.invariant c.requires.0 c.loop-k-test.true c.requires.1, omega (arith, c.if-kind_of-lt-PLUS_KIND.true, rw c.wide.ensures at c.kind_of.ensures)))
+are_arithmetic-is_arithmetic-requires t c = (omega (arith, c.decreases, left_below c.loop-k.invariant c.requires.0 (omega arith)), (left-node c.loop-k.invariant c.requires.0 (omega arith) c.requires.1, omega (arith, c.if-kind_of-lt-PLUS_KIND.true, rw c.wide.ensures at c.kind_of.ensures)))
 
 pub are_arithmetic-returns-then-not-is_arithmetic : goal.are_arithmetic-returns-then-not-is_arithmetic
-are_arithmetic-returns-then-not-is_arithmetic t c = left-stop is_arithmetic are_arithmetic arithmetic-none arithmetic-more c.loop-k.invariant c.requires.0 c.loop-k-test.true (rw c.if-not-is_arithmetic.true at c.is_arithmetic.ensures)
-
-pub are_arithmetic-overflow_add-k : goal.are_arithmetic-overflow_add-k
-are_arithmetic-overflow_add-k t c = omega (arith, c.loop-k-test.true, c.requires.0)
-
-pub are_arithmetic-loop-k-smaller : goal.are_arithmetic-loop-k-smaller
-are_arithmetic-loop-k-smaller t c = omega (arith, c.loop-k-test.true)
+are_arithmetic-returns-then-not-is_arithmetic t c = left-stop is_arithmetic are_arithmetic arithmetic-none arithmetic-more c.loop-k.invariant c.requires.0 (omega arith) (rw c.if-not-is_arithmetic.true at c.is_arithmetic.ensures)
 
 pub are_arithmetic-loop-k-preserved : goal.are_arithmetic-loop-k-preserved
-are_arithmetic-loop-k-preserved t c = left-more is_arithmetic are_arithmetic arithmetic-none arithmetic-more c.loop-k.invariant c.requires.0 c.loop-k-test.true (elim c.if-kind_of-lt-PLUS_KIND.branch [
+are_arithmetic-loop-k-preserved t c = left-more is_arithmetic are_arithmetic arithmetic-none arithmetic-more c.loop-k.invariant c.requires.0 (omega arith) (elim c.if-kind_of-lt-PLUS_KIND.branch [
   | are_arithmetic-then-kind_of-lt-PLUS_KIND+else-not-is_arithmetic w ↦ rw w.if-not-is_arithmetic.false at w.is_arithmetic.ensures
-  | are_arithmetic-else-kind_of-lt-PLUS_KIND w ↦ arithmetic-leaf (left-node c.loop-k.invariant c.requires.0 c.loop-k-test.true c.requires.1) (omega (arith, w.if-kind_of-lt-PLUS_KIND.false, rw c.wide.ensures at c.kind_of.ensures))
+  | are_arithmetic-else-kind_of-lt-PLUS_KIND w ↦ arithmetic-leaf (left-node c.loop-k.invariant c.requires.0 (omega arith) c.requires.1) (omega (arith, w.if-kind_of-lt-PLUS_KIND.false, rw c.wide.ensures at c.kind_of.ensures))
 ])
 
 pub are_arithmetic-returns : goal.are_arithmetic-returns
-are_arithmetic-returns t c = left_end is_arithmetic are_arithmetic arithmetic-none arithmetic-more c.loop-k.invariant c.requires.0 c.loop-k-test.false
+are_arithmetic-returns t c = left_end is_arithmetic are_arithmetic arithmetic-none arithmetic-more c.loop-k.invariant c.requires.0 (omega arith)
 
 pub is_arithmetic-kind_of-requires : goal.is_arithmetic-kind_of-requires
 is_arithmetic-kind_of-requires t c = omega (arith, c.wide-at.ensures, node-room c.requires.0)

@@ -1,4 +1,4 @@
-use Prim.Native.Nat.{◌+◌, ◌-◌, ◌*◌}
+use Prim.Native.Nat.{◌+◌, ◌*◌}
 use lib.Seq.{slice}
 use Rattle.calculus.specs.Truth.{are_arithmetic}
 use Rattle.marks.proofs.Arguments.{end_of, Left}
@@ -12,6 +12,3 @@ decreases-is_arithmetic l = 2 * l.i + 1
 
 abbrev pub invariant-are_arithmetic-loop-k : goal.invariant-are_arithmetic-loop-k
 invariant-are_arithmetic-loop-k l = Left are_arithmetic l.nodes l.from l.to l.k
-
-abbrev pub decreases-are_arithmetic-loop-k : goal.decreases-are_arithmetic-loop-k
-decreases-are_arithmetic-loop-k l = l.to - l.k

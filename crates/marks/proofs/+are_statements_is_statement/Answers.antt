@@ -8,36 +8,21 @@ use Rattle.calculus.specs.Truth.{is_statement, are_statements}
 use Rattle.nodes.specs.Nodes.{plus_kind, kind_at, second_at}
 use Rattle.nodes.proofs.Tables.{children-room}
 use Rattle.matching.proofs.Matches.{node-room}
-use Rattle.marks.proofs.Arguments.{end_at, children-nodes, children-end, children-count, children-inside, children-part, rest-start, rest_more, rest-stop, rest_end}
+use Rattle.marks.proofs.Arguments.{end_at, children-nodes, children-end, children-count, children-inside, children-part, rest_more, rest-stop, rest_end}
 use Rattle.marks.proofs.Statements.{statements-none, statements-more, statement-low, statement-leaf, statement_and, statement-count, statement_arithmetic, statement-relation, statement_equal}
 use Rattle.marks.proofs.+are_statements_is_statement.Goals as goal
 
-pub are_statements-loop-j-init : goal.are_statements-loop-j-init
-are_statements-loop-j-init t c = rest-start is_statement are_statements statements-none statements-more _ _
-
-pub are_statements-offset_bounds-args-j : goal.are_statements-offset_bounds-args-j
-are_statements-offset_bounds-args-j t c = omega (arith, c.loop-j-test.true)
-
-pub are_statements-bounds-args-j : goal.are_statements-bounds-args-j
-are_statements-bounds-args-j t c = omega (arith, c.loop-j-test.true)
-
 pub are_statements-is_statement-requires : goal.are_statements-is_statement-requires
-are_statements-is_statement-requires t c = (omega (arith, c.decreases, end_at c.args.args.now c.loop-j.j c.loop-j-test.true), c.requires c.loop-j.j c.loop-j-test.true)
+are_statements-is_statement-requires t c = (omega (arith, c.decreases, end_at c.args.args.now c.loop-arg.arg-index (omega arith)), c.requires c.loop-arg.arg-index (omega arith))
 
 pub are_statements-returns-then-not-is_statement : goal.are_statements-returns-then-not-is_statement
-are_statements-returns-then-not-is_statement t c = rest-stop is_statement are_statements statements-none statements-more c.loop-j.invariant c.loop-j-test.true (rw c.if-not-is_statement.true at c.is_statement.ensures)
+are_statements-returns-then-not-is_statement t c = rest-stop is_statement are_statements statements-none statements-more c.loop-arg.invariant (omega arith) (rw c.if-not-is_statement.true at c.is_statement.ensures)
 
-pub are_statements-overflow_add-j : goal.are_statements-overflow_add-j
-are_statements-overflow_add-j t c = omega (arith, c.loop-j-test.true)
-
-pub are_statements-loop-j-smaller : goal.are_statements-loop-j-smaller
-are_statements-loop-j-smaller t c = omega (arith, c.loop-j-test.true)
-
-pub are_statements-loop-j-preserved : goal.are_statements-loop-j-preserved
-are_statements-loop-j-preserved t c = rest_more is_statement are_statements statements-none statements-more c.loop-j.invariant c.loop-j-test.true (rw c.if-not-is_statement.false at c.is_statement.ensures)
+pub are_statements-loop-arg-preserved : goal.are_statements-loop-arg-preserved
+are_statements-loop-arg-preserved t c = rest_more is_statement are_statements statements-none statements-more c.loop-arg.invariant (omega arith) (rw c.if-not-is_statement.false at c.is_statement.ensures)
 
 pub are_statements-returns : goal.are_statements-returns
-are_statements-returns t c = rest_end is_statement are_statements statements-none statements-more c.loop-j.invariant c.loop-j-test.false
+are_statements-returns t c = rest_end is_statement are_statements statements-none statements-more c.loop-arg.invariant (omega arith)
 
 pub is_statement-kind_of-kind-requires : goal.is_statement-kind_of-kind-requires
 is_statement-kind_of-kind-requires t c = omega (arith, c.wide-at.ensures, node-room c.requires)

@@ -29,12 +29,6 @@ is_name-requires c = rw c.variable_of.ensures (rw (key-at c.args.at c.args.keys.
 pub returns-then-not-is_name : goal.returns-then-not-is_name
 returns-then-not-is_name c = names-stop c.args.nodes.now (placed c.args.at c.args.keys.now) c.args.n c.loop-i.i c.loop-i.invariant (omega arith) c.variable_of.result (rw (key-at c.args.at c.args.keys.now c.loop-i.i (omega (arith, c.requires.3))) c.variable_of.ensures) (subst (λ (r : Bool). (s : List ℕ) → r ≡ is_name (decode s c.args.nodes.now c.variable_of.result)) c.if-not-is_name.true c.is_name.ensures)
 
-pub overflow_add-i : goal.overflow_add-i
-overflow_add-i c = omega arith
-
-pub loop-i-smaller : goal.loop-i-smaller
-loop-i-smaller c = omega arith
-
 pub loop-i-preserved : goal.loop-i-preserved
 loop-i-preserved c = names_more c.args.nodes.now (placed c.args.at c.args.keys.now) c.args.n c.loop-i.i c.loop-i.invariant (omega arith) c.variable_of.result (rw (key-at c.args.at c.args.keys.now c.loop-i.i (omega (arith, c.requires.3))) c.variable_of.ensures) (subst (λ (r : Bool). (s : List ℕ) → r ≡ is_name (decode s c.args.nodes.now c.variable_of.result)) c.if-not-is_name.false c.is_name.ensures)
 

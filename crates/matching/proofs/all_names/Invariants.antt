@@ -1,4 +1,3 @@
-use Prim.Native.Nat.{◌-◌}
 use Rattle.matching.proofs.Names.{Names}
 use Rattle.matching.specs.Places.{placed}
 use Rattle.matching.proofs.all_names.Given as goal
@@ -6,5 +5,3 @@ use Rattle.matching.proofs.all_names.Given as goal
 abbrev pub invariant-loop-i : goal.invariant-loop-i
 invariant-loop-i l = Names l.nodes (placed l.at l.keys) l.n l.i
 
-abbrev pub decreases-loop-i : goal.decreases-loop-i
-decreases-loop-i l = l.n - l.i

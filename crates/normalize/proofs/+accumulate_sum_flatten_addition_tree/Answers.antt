@@ -8,35 +8,17 @@ use Rattle.normalize.proofs.Growing.{leaf-ready, leaf-grown, add-ready, add-grow
 use Rattle.normalize.proofs.Trees.{children-some, children-end}
 use Rattle.normalize.proofs.+accumulate_sum_flatten_addition_tree.Goals as goal
 
-pub accumulate_sum-loop-k-init : goal.accumulate_sum-loop-k-init
-accumulate_sum-loop-k-init t c = summing-none c.requires
-
-pub accumulate_sum-offset_bounds-args-k : goal.accumulate_sum-offset_bounds-args-k
-accumulate_sum-offset_bounds-args-k t c = omega (arith, c.loop-k-test.true)
-
-pub accumulate_sum-bounds-args-k : goal.accumulate_sum-bounds-args-k
-accumulate_sum-bounds-args-k t c = omega (arith, c.loop-k-test.true)
+pub accumulate_sum-loop-arg-init : goal.accumulate_sum-loop-arg-init
+accumulate_sum-loop-arg-init t c = summing-none c.requires
 
 pub accumulate_sum-flatten_addition_tree-b-requires : goal.accumulate_sum-flatten_addition_tree-b-requires
-accumulate_sum-flatten_addition_tree-b-requires t c = (omega (arith, c.decreases, summing_less c.requires c.loop-k.invariant c.loop-k-test.true), summing-ready c.requires c.loop-k.invariant c.loop-k-test.true)
+accumulate_sum-flatten_addition_tree-b-requires t c = (omega (arith, c.decreases, summing_less c.requires c.loop-arg.invariant c.loop-arg-test.true), summing-ready c.requires c.loop-arg.invariant c.loop-arg-test.true)
 
-pub accumulate_sum-overflow_add-k : goal.accumulate_sum-overflow_add-k
-accumulate_sum-overflow_add-k t c = omega (arith, c.loop-k-test.true)
-
-pub accumulate_sum-loop-k-smaller : goal.accumulate_sum-loop-k-smaller
-accumulate_sum-loop-k-smaller t c = omega (arith, c.loop-k-test.true)
-
-pub accumulate_sum-loop-k-preserved : goal.accumulate_sum-loop-k-preserved
-accumulate_sum-loop-k-preserved t c = summing-more c.requires c.loop-k.invariant c.loop-k-test.true _ c.flatten_addition_tree-b.ensures c.flatten_addition_tree-b.auto.coeffs c.flatten_addition_tree-b.auto.keys
-
-pub accumulate_sum-shape_of-coeffs : goal.accumulate_sum-shape_of-coeffs
-accumulate_sum-shape_of-coeffs t c = c.loop-k.invariant.coeffs
-
-pub accumulate_sum-shape_of-keys : goal.accumulate_sum-shape_of-keys
-accumulate_sum-shape_of-keys t c = c.loop-k.invariant.keys
+pub accumulate_sum-loop-arg-preserved : goal.accumulate_sum-loop-arg-preserved
+accumulate_sum-loop-arg-preserved t c = summing-more c.requires c.loop-arg.invariant c.loop-arg-test.true _ c.flatten_addition_tree-b.ensures
 
 pub accumulate_sum-returns : goal.accumulate_sum-returns
-accumulate_sum-returns t c = summing_end c.requires c.loop-k.invariant c.loop-k-test.false
+accumulate_sum-returns t c = summing_end c.requires c.loop-arg.invariant c.loop-arg-test.false
 
 pub flatten_addition_tree-kind_of-kind-requires : goal.flatten_addition_tree-kind_of-kind-requires
 flatten_addition_tree-kind_of-kind-requires t c = omega (arith, c.wide-at.ensures, node-room c.requires.node)

@@ -8,29 +8,17 @@ use Rattle.normalize.proofs.Counting.{count_none, count-more, count-end, count-o
 use Rattle.normalize.proofs.Trees.{node_at, end_at, children-nodes, children-end}
 use Rattle.normalize.proofs.+count_all_count_leaves.Goals as goal
 
-pub count_all-loop-k-init : goal.count_all-loop-k-init
-count_all-loop-k-init t c = count_none c.requires.1
-
-pub count_all-offset_bounds-args-k : goal.count_all-offset_bounds-args-k
-count_all-offset_bounds-args-k t c = omega (arith, c.loop-k-test.true)
-
-pub count_all-bounds-args-k : goal.count_all-bounds-args-k
-count_all-bounds-args-k t c = omega (arith, c.loop-k-test.true)
+pub count_all-loop-arg-init : goal.count_all-loop-arg-init
+count_all-loop-arg-init t c = count_none c.requires.1
 
 pub count_all-count_leaves-m-requires : goal.count_all-count_leaves-m-requires
-count_all-count_leaves-m-requires t c = (omega (arith, c.decreases, end_at c.args.args.now c.loop-k.k c.loop-k-test.true), (node_at c.args.args.now c.loop-k.k c.requires.0 c.loop-k-test.true, c.loop-k.invariant.most))
+count_all-count_leaves-m-requires t c = (omega (arith, c.decreases, end_at c.args.args.now c.loop-arg.arg-index c.loop-arg-test.true), (node_at c.args.args.now c.loop-arg.arg-index c.requires.0 c.loop-arg-test.true, c.loop-arg.invariant.most))
 
-pub count_all-overflow_add-k : goal.count_all-overflow_add-k
-count_all-overflow_add-k t c = omega (arith, c.loop-k-test.true)
-
-pub count_all-loop-k-smaller : goal.count_all-loop-k-smaller
-count_all-loop-k-smaller t c = omega (arith, c.loop-k-test.true)
-
-pub count_all-loop-k-preserved : goal.count_all-loop-k-preserved
-count_all-loop-k-preserved t c = count-more c.loop-k.invariant c.loop-k-test.true c.count_leaves-m.ensures
+pub count_all-loop-arg-preserved : goal.count_all-loop-arg-preserved
+count_all-loop-arg-preserved t c = count-more c.loop-arg.invariant c.loop-arg-test.true c.count_leaves-m.ensures
 
 pub count_all-returns : goal.count_all-returns
-count_all-returns t c = count-end c.loop-k.invariant c.loop-k-test.false
+count_all-returns t c = count-end c.loop-arg.invariant c.loop-arg-test.false
 
 pub count_leaves-kind_of-requires : goal.count_leaves-kind_of-requires
 count_leaves-kind_of-requires t c = omega (arith, c.wide-at.ensures, node-room c.requires.0)

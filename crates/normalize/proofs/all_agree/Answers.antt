@@ -9,47 +9,14 @@ returns-then-n-m c = lists_differ (λ e. omega (arith, e, c.if-n-m.true))
 pub loop-i-init : goal.loop-i-init
 loop-i-init c = agreeing-none (omega (arith, c.if-n-m.false))
 
-pub overflow_add-at : goal.overflow_add-at
-overflow_add-at c = omega (arith, c.loop-i-test.true, c.requires.general.most)
-
-pub offset_bounds-coeffs-i : goal.offset_bounds-coeffs-i
-offset_bounds-coeffs-i c = omega (arith, c.loop-i-test.true, c.requires.general.most)
-
-pub bounds-coeffs-i : goal.bounds-coeffs-i
-bounds-coeffs-i c = omega (arith, c.loop-i-test.true, c.requires.general.most, c.requires.room.coeffs)
-
-pub offset_bounds-keys-i : goal.offset_bounds-keys-i
-offset_bounds-keys-i c = omega (arith, c.loop-i-test.true, c.requires.general.most)
-
-pub bounds-keys-i : goal.bounds-keys-i
-bounds-keys-i c = omega (arith, c.loop-i-test.true, c.requires.general.most, c.requires.room.keys)
-
-pub offset_bounds-coeffs-at : goal.offset_bounds-coeffs-at
-offset_bounds-coeffs-at c = omega (arith, c.loop-i-test.true, c.requires.general.most)
-
-pub bounds-coeffs-at : goal.bounds-coeffs-at
-bounds-coeffs-at c = omega (arith, c.loop-i-test.true, c.requires.general.most, c.requires.room.coeffs)
-
-pub offset_bounds-keys-at : goal.offset_bounds-keys-at
-offset_bounds-keys-at c = omega (arith, c.loop-i-test.true, c.requires.general.most)
-
-pub bounds-keys-at : goal.bounds-keys-at
-bounds-keys-at c = omega (arith, c.loop-i-test.true, c.requires.general.most, c.requires.room.keys)
-
 pub entries_agree-requires : goal.entries_agree-requires
-entries_agree-requires c = sides-nodes (c.requires) c.loop-i-test.true c.if-n-m.false
+entries_agree-requires c = sides-nodes c.requires c.loop-i-test.true c.if-n-m.false
 
 pub returns-then-not-entries_agree : goal.returns-then-not-entries_agree
-returns-then-not-entries_agree c = agreeing-stop c.loop-i.invariant c.if-n-m.false c.loop-i-test.true (sides-read (c.requires) c.loop-i-test.true c.if-n-m.false (rw c.if-not-entries_agree.true at c.entries_agree.ensures))
-
-pub overflow_add-i : goal.overflow_add-i
-overflow_add-i c = omega (arith, c.loop-i-test.true, c.requires.general.most)
-
-pub loop-i-smaller : goal.loop-i-smaller
-loop-i-smaller c = omega (arith, c.loop-i-test.true)
+returns-then-not-entries_agree c = agreeing-stop c.loop-i.invariant c.if-n-m.false c.loop-i-test.true (sides-read c.requires c.loop-i-test.true c.if-n-m.false (rw c.if-not-entries_agree.true at c.entries_agree.ensures))
 
 pub loop-i-preserved : goal.loop-i-preserved
-loop-i-preserved c = agreeing-more c.loop-i.invariant c.if-n-m.false c.loop-i-test.true (sides-read (c.requires) c.loop-i-test.true c.if-n-m.false (rw c.if-not-entries_agree.false at c.entries_agree.ensures))
+loop-i-preserved c = agreeing-more c.loop-i.invariant c.if-n-m.false c.loop-i-test.true (sides-read c.requires c.loop-i-test.true c.if-n-m.false (rw c.if-not-entries_agree.false at c.entries_agree.ensures))
 
 pub returns : goal.returns
 returns c = agreeing_end c.loop-i.invariant c.loop-i-test.false

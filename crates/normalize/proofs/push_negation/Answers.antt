@@ -5,25 +5,13 @@ use Rattle.normalize.proofs.Pushing.{pushing-none, pushing-ready, pushing-more, 
 use Rattle.normalize.proofs.push_negation.Goals as goal
 
 pub loop-i-init : goal.loop-i-init
-loop-i-init c = pushing-none (c.requires) refl
+loop-i-init c = pushing-none c.requires refl
 
 pub push_at-t-requires : goal.push_at-t-requires
-push_at-t-requires c = pushing-ready (c.requires) c.loop-i.invariant c.loop-i-test.true
-
-pub overflow_add-i : goal.overflow_add-i
-overflow_add-i c = omega (arith, c.loop-i-test.true, c.requires.most)
-
-pub loop-i-smaller : goal.loop-i-smaller
-loop-i-smaller c = omega (arith, c.loop-i-test.true)
+push_at-t-requires c = pushing-ready c.requires c.loop-i.invariant c.loop-i-test.true c.loop-i.auto.coeffs c.loop-i.auto.keys
 
 pub loop-i-preserved : goal.loop-i-preserved
-loop-i-preserved c = pushing-more (c.requires) c.loop-i.invariant c.loop-i-test.true c.push_at-t.ensures
-
-pub shape_of-coeffs : goal.shape_of-coeffs
-shape_of-coeffs c = c.loop-i.invariant.coeffs
-
-pub shape_of-keys : goal.shape_of-keys
-shape_of-keys c = c.loop-i.invariant.keys
+loop-i-preserved c = pushing-more c.requires c.loop-i.invariant c.loop-i-test.true c.loop-i.auto.coeffs c.loop-i.auto.keys c.push_at-t.ensures
 
 pub returns : goal.returns
-returns c = pushing_end (c.requires) c.loop-i.invariant c.loop-i-test.false
+returns c = pushing_end c.requires c.loop-i.invariant (omega arith)

@@ -1,10 +1,6 @@
-use Prim.Native.Nat.{◌-◌, ◌≤◌}
 use Rattle.rules.specs.Checked.{map_of}
 use Rattle.pol.proofs.Tops.{Mapping}
 use Rattle.pol.proofs.map_entry.Given as goal
 
 abbrev pub invariant-loop-i : goal.invariant-loop-i
-invariant-loop-i l = Mapping (map_of l.by) l.initial.coeffs l.b l.i l.coeffs × (l.i ≤ l.n)
-
-abbrev pub decreases-loop-i : goal.decreases-loop-i
-decreases-loop-i l = l.n - l.i
+invariant-loop-i l = Mapping (map_of l.by) l.initial.coeffs l.b l.i l.coeffs

@@ -1,9 +1,5 @@
-use Prim.Native.Nat.{◌-◌, ◌≤◌}
 use Rattle.pol.proofs.Storing.{Copied}
 use Rattle.pol.proofs.store.Given as goal
 
 abbrev pub invariant-loop-i : goal.invariant-loop-i
-invariant-loop-i l = Copied l.initial.coeffs l.initial.keys l.from l.at l.b l.i l.coeffs l.keys × (l.i ≤ l.n)
-
-abbrev pub decreases-loop-i : goal.decreases-loop-i
-decreases-loop-i l = l.n - l.i
+invariant-loop-i l = Copied l.initial.coeffs l.initial.keys l.from l.at l.b l.i l.coeffs l.keys

@@ -1,40 +1,22 @@
--- count_refused: owes how many lines are refused: the loop keeps their count among the first k, whatever lines have these answers.
+-- count_refused: owes how many lines are refused: the loop keeps their count among those of the first answers, whatever lines have these answers.
 use mathlib.Core.Path.{sym, ◌∙◌}
 use native.Mathlib.Omega.{arith}
+use lib.Seq.{length-take-le, get_or-take}
 use Rattle.report.proofs.Totals.{refused_none, refused-one, refused-same, refused_all}
 use Rattle.report.proofs.count_refused.Goals as goal
-use Rattle.report.proofs.count_refused.Goals.{then-numbers-k-ne0, else-numbers-k-ne0}
+use Rattle.report.proofs.count_refused.Goals.{then-number-ne0, else-number-ne0}
 
-pub loop-k-init : goal.loop-k-init
-loop-k-init c = (omega arith, omega arith, λ ls are. refused_none ls)
+pub loop-number-init : goal.loop-number-init
+loop-number-init c = (omega arith, λ ls are. refused_none ls)
 
-pub bounds-numbers-k : goal.bounds-numbers-k
-bounds-numbers-k c = omega arith
+pub loop-number-preserved : goal.loop-number-preserved
+loop-number-preserved c =
+    let long = length-take-le c.args.n c.args.numbers.now c.requires in
+    let same = get_or-take c.args.n c.args.numbers.now c.loop-number.number-index 0 (omega arith) in
+    elim c.if-number-ne0.branch [
+      | then-number-ne0 w ↦ (omega (arith, w.refused-is), λ ls are. refused-one are (omega arith) (c.loop-number.invariant.1 ls are) (λ e. w.if-number-ne0.true (same ∙ e)) ∙ sym w.refused-is)
+      | else-number-ne0 w ↦ (omega (arith, w.refused-is), λ ls are. refused-same are (omega arith) (c.loop-number.invariant.1 ls are) (sym same ∙ w.if-number-ne0.false) ∙ sym w.refused-is)
+    ]
 
-pub overflow_add-refused : goal.overflow_add-refused
-overflow_add-refused c = omega arith
-
-pub overflow_add-k : goal.overflow_add-k
-overflow_add-k c = omega arith
-
-pub loop-k-smaller : goal.loop-k-smaller
-loop-k-smaller c = omega arith
-
-pub loop-k-preserved : goal.loop-k-preserved
-loop-k-preserved c = (
-  omega arith,
-  elim c.if-numbers-k-ne0.branch [
-    | then-numbers-k-ne0 w ↦ omega (arith, w.refused-is)
-    | else-numbers-k-ne0 w ↦ omega (arith, w.refused-is)
-  ],
-  λ ls are. elim c.if-numbers-k-ne0.branch [
-    | then-numbers-k-ne0 w ↦ refused-one are c.loop-k-test.true (c.loop-k.invariant.2 ls are) w.if-numbers-k-ne0.true ∙ sym w.refused-is
-    | else-numbers-k-ne0 w ↦ refused-same are c.loop-k-test.true (c.loop-k.invariant.2 ls are) w.if-numbers-k-ne0.false ∙ sym w.refused-is
-  ],
-)
-
-pub returns : goal.returns
-returns c = record {
-  ls_value = λ ls are. refused_all are c.loop-k-test.false (c.loop-k.invariant.2 ls are);
-  upper_bound = omega arith;
-}
+pub returns-clause-ls_value : goal.returns-clause-ls_value
+returns-clause-ls_value c ls are = refused_all are (omega (arith, length-take-le c.args.n c.args.numbers.now c.requires)) (c.loop-number.invariant.1 ls are)

@@ -1,54 +1,20 @@
 -- The loop's invariant: the answer from entry i on is that for the whole.
-use mathlib.Core.Path.{subst}
 use native.Mathlib.Omega.{arith}
-use lib.ListN.{get_or}
-use lib.IntN.{pos}
 use Rattle.integer.proofs.Signed.{back}
-use Rattle.rules.specs.Checked.{FaceIs}
 use Rattle.matching.specs.Places.{placed}
 use Rattle.sums.specs.Places.{left_at, right_at, conclusion_at}
 use Rattle.matching.proofs.Places.{key-at, coefficient-at}
-use Rattle.rules.proofs.Adding.{face-start, face-more, face-stop, face_end}
+use Rattle.rules.proofs.Adding.{face-more, face-stop, face_end}
 use Rattle.rules.proofs.zeros_face_zeros.Goals as goal
 
-pub loop-i-init : goal.loop-i-init
-loop-i-init c = face-start c.args.nodes.now (placed right_at c.args.coeffs.now) (placed left_at c.args.keys.now) c.args.n (placed conclusion_at c.args.coeffs.now) (placed conclusion_at c.args.keys.now) c.args.m 0 (omega arith)
-
-pub overflow_add-c : goal.overflow_add-c
-overflow_add-c c = omega (arith, c.requires.listed.few, c.requires.listed.most)
-
-pub offset_bounds-coeffs-i : goal.offset_bounds-coeffs-i
-offset_bounds-coeffs-i c = omega (arith, c.requires.listed.few, c.requires.listed.most)
-
-pub bounds-coeffs-i : goal.bounds-coeffs-i
-bounds-coeffs-i c = omega (arith, c.requires.listed.coefficients)
-
-pub overflow_add-key : goal.overflow_add-key
-overflow_add-key c = omega (arith, c.requires.listed.few, c.requires.listed.most)
-
-pub offset_bounds-keys-i : goal.offset_bounds-keys-i
-offset_bounds-keys-i c = omega (arith, c.requires.listed.few, c.requires.listed.most)
-
-pub bounds-keys-i : goal.bounds-keys-i
-bounds-keys-i c = omega (arith, c.requires.listed.keys)
-
-pub zero_faces_zero-requires : goal.zero_faces_zero-requires
-zero_faces_zero-requires c = record {
-  keyed = c.requires.keyed;
-  variable = rw (key-at conclusion_at c.args.keys.now c.loop-i.i (omega (arith, c.requires.listed.most))) at (c.requires.listed.literals c.loop-i.i (omega arith));
-}
+pub zero_faces_zero-requires-clause-variable : goal.zero_faces_zero-requires-clause-variable
+zero_faces_zero-requires-clause-variable c = rw (key-at conclusion_at c.args.keys.now c.loop-i.i (omega (arith, c.requires.listed.most))) at (c.requires.listed.literals c.loop-i.i (omega arith))
 
 pub returns-then-not-zero_faces_zero : goal.returns-then-not-zero_faces_zero
-returns-then-not-zero_faces_zero c = face-stop c.args.nodes.now (placed right_at c.args.coeffs.now) (placed left_at c.args.keys.now) c.args.n (placed conclusion_at c.args.coeffs.now) (placed conclusion_at c.args.keys.now) c.args.m c.loop-i.i c.loop-i.invariant (omega arith) (subst (FaceIs c.args.nodes.now (placed right_at c.args.coeffs.now) (placed left_at c.args.keys.now) c.args.n (get_or (placed conclusion_at c.args.coeffs.now) c.loop-i.i (pos 0)) (get_or (placed conclusion_at c.args.keys.now) c.loop-i.i 0)) c.if-not-zero_faces_zero.true (rw (back _ c.c-1.given, ← (coefficient-at conclusion_at c.args.coeffs.now c.loop-i.i (omega (arith, c.requires.listed.most))), ← (key-at conclusion_at c.args.keys.now c.loop-i.i (omega (arith, c.requires.listed.most)))) at c.zero_faces_zero.ensures))
-
-pub overflow_add-i : goal.overflow_add-i
-overflow_add-i c = omega arith
-
-pub loop-i-smaller : goal.loop-i-smaller
-loop-i-smaller c = omega arith
+returns-then-not-zero_faces_zero c = face-stop c.args.nodes.now (placed right_at c.args.coeffs.now) (placed left_at c.args.keys.now) c.args.n (placed conclusion_at c.args.coeffs.now) (placed conclusion_at c.args.keys.now) c.args.m c.loop-i.i c.loop-i.invariant (omega arith) (rw (back _ c.c-1.given, ← (coefficient-at conclusion_at c.args.coeffs.now c.loop-i.i (omega (arith, c.requires.listed.most))), ← (key-at conclusion_at c.args.keys.now c.loop-i.i (omega (arith, c.requires.listed.most))), c.if-not-zero_faces_zero.true) at c.zero_faces_zero.ensures)
 
 pub loop-i-preserved : goal.loop-i-preserved
-loop-i-preserved c = face-more c.args.nodes.now (placed right_at c.args.coeffs.now) (placed left_at c.args.keys.now) c.args.n (placed conclusion_at c.args.coeffs.now) (placed conclusion_at c.args.keys.now) c.args.m c.loop-i.i c.loop-i.invariant (omega arith) (subst (FaceIs c.args.nodes.now (placed right_at c.args.coeffs.now) (placed left_at c.args.keys.now) c.args.n (get_or (placed conclusion_at c.args.coeffs.now) c.loop-i.i (pos 0)) (get_or (placed conclusion_at c.args.keys.now) c.loop-i.i 0)) c.if-not-zero_faces_zero.false (rw (back _ c.c-1.given, ← (coefficient-at conclusion_at c.args.coeffs.now c.loop-i.i (omega (arith, c.requires.listed.most))), ← (key-at conclusion_at c.args.keys.now c.loop-i.i (omega (arith, c.requires.listed.most)))) at c.zero_faces_zero.ensures))
+loop-i-preserved c = face-more c.args.nodes.now (placed right_at c.args.coeffs.now) (placed left_at c.args.keys.now) c.args.n (placed conclusion_at c.args.coeffs.now) (placed conclusion_at c.args.keys.now) c.args.m c.loop-i.i c.loop-i.invariant (omega arith) (rw (back _ c.c-1.given, ← (coefficient-at conclusion_at c.args.coeffs.now c.loop-i.i (omega (arith, c.requires.listed.most))), ← (key-at conclusion_at c.args.keys.now c.loop-i.i (omega (arith, c.requires.listed.most))), c.if-not-zero_faces_zero.false) at c.zero_faces_zero.ensures)
 
 pub returns : goal.returns
 returns c = face_end c.args.nodes.now (placed right_at c.args.coeffs.now) (placed left_at c.args.keys.now) c.args.n (placed conclusion_at c.args.coeffs.now) (placed conclusion_at c.args.keys.now) c.args.m c.loop-i.i c.loop-i.invariant (omega arith)

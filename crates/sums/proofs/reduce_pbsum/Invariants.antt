@@ -1,10 +1,6 @@
-use Prim.Native.Nat.{◌-◌, ◌≤◌}
 use Rattle.matching.specs.Places.{placed, Others}
 use Rattle.sums.proofs.Reducing.{Reducing}
 use Rattle.sums.proofs.reduce_pbsum.Given as goal
 
 abbrev pub invariant-loop-i : goal.invariant-loop-i
-invariant-loop-i l = Reducing l.nodes (placed l.at l.initial.coeffs) (placed l.at l.keys) l.n (placed l.into l.coeffs) l.total.slack l.i × ((l.i ≤ l.n) × Others l.into l.initial.coeffs l.coeffs)
-
-abbrev pub decreases-loop-i : goal.decreases-loop-i
-decreases-loop-i l = l.n - l.i
+invariant-loop-i l = Reducing l.nodes (placed l.at l.initial.coeffs) (placed l.at l.keys) l.n (placed l.into l.coeffs) l.total.slack l.i × Others l.into l.initial.coeffs l.coeffs

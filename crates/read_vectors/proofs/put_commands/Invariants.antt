@@ -1,6 +1,0 @@
--- The commands that are left.
-use Rattle.std.proofs.Common.{◌-◌}
-use Rattle.read_vectors.proofs.put_commands.Given as goal
-
-abbrev pub decreases-loop-i : goal.decreases-loop-i
-decreases-loop-i g l = l.k - l.i
