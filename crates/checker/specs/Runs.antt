@@ -1,18 +1,17 @@
 -- A file in the reader's tables: its lines as the definitions give them, and how their numbers and marks stand in slices (01, sections 5 and 6).
-use Rattle.std.specs.Prelude.{◌≡◌, Bool, true, false, ◌&&◌, List, [], ◌∷◌, map, ℕ, zero, suc, ◌≤◌, ◌<◌, length, get_or}
+use Rattle.std.specs.Prelude.{◌≡◌, Bool, true, false, ◌&&◌, Result, List, [], ◌∷◌, map, ℕ, ◌≤◌, ◌<◌, length, get_or}
 use Rattle.calculus.specs.Grammar.{got}
 use Rattle.calculus.specs.Greatest.{unreachable}
 use Rattle.calculus.specs.Limits.{pol_lines, max_pols}
 use Rattle.calculus.specs.Marks.{Line, line_of, number_of, plain_of, line_at, all_hold, refuted_by, run}
 use Rattle.calculus.specs.Pol.{pol_result, given_clause, given_answer, pushed_ids}
 use Rattle.calculus.specs.Terms.{Term, PolWord}
-use Rattle.calculus.specs.Words.{Res, ok, bad}
 use Rattle.heads.specs.PolHeads.{pol_word_of}
 use Rattle.heads.specs.declared.PolHead.{PolHead}
 use Rattle.lines.specs.Running.{ClausesAre}
 use Rattle.nodes.specs.Nodes.{decode, Table, Firsts, Named}
 use Rattle.matching.specs.Matched.{answer_of}
-use Rattle.matching.specs.declared.Answer.{Answer}
+use Rattle.matching.specs.declared.Refusal.{Refusal}
 use Rattle.reader.specs.Commands.{id_index, word_at, kind_word, clause_word, part_at, pol_kind, above_in, pol_words_of, command_of, commands_of, Commands}
 use Rattle.terms.specs.Index.{Indexed}
 use Rattle.terms.specs.Spans.{max_joined, string_at}
@@ -68,11 +67,6 @@ NumberedBy s t w j number = word_at w j kind_word ≡ pol_kind → (at : List �
 abbrev pub Counted : List ℕ → List ℕ → List ℕ → ℕ → List ℕ → Type 0
 Counted s t w n numbers = (j : ℕ) → j < n → NumberedBy s t w j (get_or numbers j 0)
 
--- the answer of a pol line by its number: plain where it succeeds
-unfoldable pub answered : ℕ → Res Bool
-answered zero = ok true
-answered (suc n) = bad (suc n)
-
 -- the lines of the first k commands hold as the marks say
 abbrev pub HoldBy : List Line → List ℕ → List ℕ → ℕ → List Bool → Type 0
 HoldBy ls s w k marks = (j : ℕ) → j < k → (line_at ls (string_at s w j)).holds ≡ get_or marks j false
@@ -108,9 +102,9 @@ all_marked marks [] = true
 all_marked marks (p ∷ ps) = get_or marks p false && all_marked marks ps
 
 -- ---- what the functions answer, over every text of which the tables are a file
--- the answer of command k, with the number that it has where it is a pol line
-abbrev pub AnswerIs : List ℕ → List ℕ → ℕ → ℕ → ℕ → Answer → Type 0
-AnswerIs t w n k number r = (s : List ℕ) → File s t w n → NumberedBy s t w k number → answer_of r ≡ (command_line s t w k).answer
+-- the answer of command k, if it is no pol line
+abbrev pub AnswerIs : List ℕ → List ℕ → ℕ → ℕ → Result Bool Refusal → Type 0
+AnswerIs t w n k r = (s : List ℕ) → File s t w n → (word_at w k kind_word ≡ pol_kind → ⊥) → answer_of r ≡ (command_line s t w k).answer
 
 -- the answers of the first k commands, where the first slice has the numbers of pol lines
 abbrev pub AnswersAre : List ℕ → List ℕ → ℕ → ℕ → List ℕ → List ℕ → List Bool → Type 0

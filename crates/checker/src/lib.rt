@@ -16,7 +16,7 @@ ghost use Rattle.reader.specs.Reading.{Ids};
 ghost use Rattle.report.specs.Written.{Wrote};
 ghost use Rattle.sums.specs.Places.{Rooms};
 ghost use Rattle.terms.specs.Spans.{max_joined};
-ghost use Rattle.checker.specs.Runs.{TakenSome, File, Filed, command_lines, answered, NoPols, AnsweredBy, all_marked, PushIs, PushesAre, AnswerIs, AnswersAre, HoldsIs, MarksAre, RefutesIs, RefutedIs, Cited};
+ghost use Rattle.checker.specs.Runs.{TakenSome, File, Filed, command_lines, NoPols, AnsweredBy, all_marked, PushIs, PushesAre, AnswerIs, AnswersAre, HoldsIs, MarksAre, RefutesIs, RefutedIs, Cited};
 ghost use Rattle.lines.specs.Running.{HeadIn};
 
 use heads::{MAX_COMMANDS, MAX_NODES, PolHead, closes, pol_word};
@@ -76,60 +76,46 @@ const IDS: [u8; 1940] = *b"\
     c502c503c504c505c506c507c508c509c510c511c512";
 
 // ---- answers
-// The answer of a pol line by its number: plain where it succeeds.
-fn answer_pol(number: u8) -> Answer
-    ensures { answer_of result ≡ answered number }
-{
-    if number == 0 {
-        return Answer::Accepted(true);
-    }
-    Answer::Refused(number)
-}
-
-// The answer of command k: an assumption is accepted, a step is answered by its rule, a pol line by the number that it has.
+// The answer of command k, which is no pol line: an assumption is accepted, a step is answered by its rule.
 fn answer_of(
     nodes: &[u32],
     commands: &[u16],
     n: usize,
     k: usize,
-    number: u8,
     coeffs: &mut [i64],
     keys: &mut [u32],
     slots: &mut [u16],
 ) -> Answer
     requires filed { Filed nodes.now commands.now n × (k < n) }
     requires rooms { Rooms nodes.now coeffs.old keys.old slots.old }
-    ensures { AnswerIs nodes.now commands.now n k number result }
+    ensures { AnswerIs nodes.now commands.now n k result }
 {
-    let kind = word_of(commands, k, KIND_WORD);
-    if kind == 0 {
-        return Answer::Accepted(true);
-    }
-    if kind == POL_KIND {
-        return answer_pol(number);
+    if word_of(commands, k, KIND_WORD) == 0 {
+        return Ok(true);
     }
     check_step(nodes, commands, k, coeffs, keys, slots)
 }
 
 // Stores an answer as that of command k.
+#[tactic(auto, unfolding(calculus::specs::Marks::number_of, calculus::specs::Marks::plain_of))]
 fn put_answer(numbers: &mut [u8], plains: &mut [bool], k: usize, answer: Answer)
     requires { (k < length numbers.old) × (k < length plains.old) }
     ensures numbers_after { numbers.new ≡ set numbers.old k (number_of (answer_of answer)) }
     ensures plains_after { plains.new ≡ set plains.old k (plain_of (answer_of answer)) }
 {
     match answer {
-        Answer::Accepted(plain) => {
+        Ok(plain) => {
             numbers[k] = 0;
             plains[k] = plain;
         }
-        Answer::Refused(number) => {
-            numbers[k] = number;
+        Err(refusal) => {
+            numbers[k] = u8::from(refusal);
             plains[k] = false;
         }
     }
 }
 
-// The answers of all n commands, with the arrays that sums are made in; the numbers of pol lines stand there before.
+// The answers of all n commands, with the arrays that sums are made in; the numbers of pol lines stand there before, and those that succeed are plain.
 fn answer_all(
     nodes: &[u32],
     commands: &[u16],
@@ -146,9 +132,12 @@ fn answer_all(
     ensures { AnswersAre nodes.now commands.now n n numbers.old numbers.new plains.new }
 {
     for k in 0..n {
-        let number = numbers[k];
-        let answer = answer_of(nodes, commands, n, k, number, coeffs, keys, slots);
-        put_answer(numbers, plains, k, answer);
+        if word_of(commands, k, KIND_WORD) == POL_KIND {
+            plains[k] = numbers[k] == 0;
+        } else {
+            let answer = answer_of(nodes, commands, n, k, coeffs, keys, slots);
+            put_answer(numbers, plains, k, answer);
+        }
     }
 }
 

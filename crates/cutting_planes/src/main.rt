@@ -1,15 +1,15 @@
 // The program: the report of the text on standard input goes to standard output; with `--opb FILE`, that of the OPB text in the file and the text behind it.
 #![tactic(auto)]
 
-ghost use Rattle.std.specs.Prelude.{◌≤◌, length};
-ghost use Rattle.cutting_planes.specs.Inputs.{Stored, Within};
+ghost use Rattle.std.specs.Prelude.{◌≤◌, length, IfOk};
+ghost use Rattle.cutting_planes.specs.Inputs.{Stored, WithinReport};
 
 use checker::{REPORT_BYTES, cutting_planes_check, cutting_planes_check_opb};
-use lexer::same;
 use reader::NODE_WORDS;
 use std::env::{Env, FillError};
 use std::fmt::InlineText;
 use std::fs::File;
+use std::io;
 use std::io::{Error, Print, Read};
 use std::os::fd::AsRawFd;
 use std::str::from_utf8;
@@ -31,13 +31,6 @@ const ERROR_BYTES: usize = 96;
 // The descriptor of standard input.
 const STDIN_FILENO: i32 = 0;
 
-// A text: how many bytes of it were stored, or that a read failed.
-#[derive(Drop)]
-enum Input {
-    Text(usize),
-    Failed,
-}
-
 // Stores the bytes of src behind the first `at` of text, as far as there is room, and answers how many are stored then.
 fn append(text: &mut [u8], at: usize, src: &[u8]) -> usize
     requires { at ≤ length text.old }
@@ -49,22 +42,21 @@ fn append(text: &mut [u8], at: usize, src: &[u8]) -> usize
     end
 }
 
-// Reads from an open file until it ends or text is full. A read that gives fewer bytes is followed by another; one that fails is told.
-fn read_text<F: Read>(file: &mut F, text: &mut [u8]) -> Input
-    ensures { Within (length text.old) result }
+// Reads from an open file until it ends or text is full, and answers how many bytes are stored then. A read that gives fewer bytes is
+// followed by another; the error of one that fails is handed on.
+fn read_text(file: &mut impl Read, text: &mut [u8]) -> io::Result<usize>
+    ensures { IfOk result (λ size. size ≤ length text.old) }
 {
     let mut chunk = [0u8; CHUNK_BYTES];
     let mut done = 0;
     while done < text.len() {
-        let Ok(more) = file.read(&mut chunk) else {
-            return Input::Failed;
-        };
+        let more = file.read(&mut chunk)?;
         if more == 0 {
-            return Input::Text(done);
+            break;
         }
         done = append(text, done, &chunk[..more]);
     }
-    Input::Text(done)
+    Ok(done)
 }
 
 // Writes what went wrong to standard error.
@@ -79,47 +71,46 @@ fn print(rt: &HostRuntime, report: &[u8]) {
     }
 }
 
-// Writes the report of the text to standard output.
-fn put_report(rt: &HostRuntime, text: &[u8]) {
+// Writes the report that a check gives of the text to standard output.
+fn put_report<F: FnOnce(&[u8], &mut [u32], &mut [u8]) -> usize>(
+    rt: &HostRuntime,
+    text: &[u8],
+    check: F,
+)
+    requires callable { F.IsAlwaysCallable check }
+    requires within { WithinReport (F.post check) }
+{
     let mut nodes = [0u32; NODE_WORDS];
     let mut report = [0u8; REPORT_BYTES];
-    let size = cutting_planes_check(text, &mut nodes, &mut report);
-    print(rt, &report[0..size]);
+    let size = check(text, &mut nodes, &mut report);
+    print(rt, &report[..size]);
 }
 
-// Writes the report of the OPB text and the text behind it to standard output.
-fn put_report_opb(rt: &HostRuntime, opb: &[u8], text: &[u8]) {
-    let mut nodes = [0u32; NODE_WORDS];
-    let mut report = [0u8; REPORT_BYTES];
-    let size = cutting_planes_check_opb(opb, text, &mut nodes, &mut report);
-    print(rt, &report[0..size]);
-}
-
-// The report of the text on standard input.
-fn check_input(rt: &HostRuntime) {
+// The report that a check gives of the text on standard input.
+fn check_input<F: FnOnce(&[u8], &mut [u32], &mut [u8]) -> usize>(rt: &HostRuntime, check: F)
+    requires callable { F.IsAlwaysCallable check }
+    requires within { WithinReport (F.post check) }
+{
     let mut text = [0u8; TEXT_BYTES];
-    match read_text(&mut rt.stdin(), &mut text) {
-        Input::Text(size) => put_report(rt, &text[..size]),
-        Input::Failed => complain(rt, b"cutting_planes: standard input cannot be read\n"),
-    }
-}
-
-// The report of the OPB text and of that on standard input behind it.
-fn check_behind(rt: &HostRuntime, opb: &[u8]) {
-    let mut text = [0u8; TEXT_BYTES];
-    match read_text(&mut rt.stdin(), &mut text) {
-        Input::Text(size) => put_report_opb(rt, opb, &text[..size]),
-        Input::Failed => complain(rt, b"cutting_planes: standard input cannot be read\n"),
-    }
+    let Ok(size) = read_text(&mut rt.stdin(), &mut text) else {
+        complain(rt, b"cutting_planes: standard input cannot be read\n");
+        return;
+    };
+    put_report(rt, &text[..size], check);
 }
 
 // The report of the OPB text in an open file and of the text on standard input.
 fn check_file(rt: &HostRuntime, mut file: File) {
     let mut opb = [0u8; TEXT_BYTES];
-    match read_text(&mut file, &mut opb) {
-        Input::Text(size) => check_behind(rt, &opb[..size]),
-        Input::Failed => complain(rt, b"cutting_planes: the OPB file cannot be read\n"),
-    }
+    let Ok(size) = read_text(&mut file, &mut opb) else {
+        complain(rt, b"cutting_planes: the OPB file cannot be read\n");
+        return;
+    };
+    let opb = &opb[..size];
+    check_input(
+        rt,
+        |text, nodes, report| cutting_planes_check_opb(opb, text, nodes, report),
+    );
 }
 
 // Writes to standard error that the OPB file cannot be opened, and why.
@@ -167,7 +158,7 @@ fn check_opb(rt: &HostRuntime) {
 fn is_option(rt: &HostRuntime) -> bool {
     let mut option = [0u8; OPTION_BYTES];
     let size = rt.arg(1, &mut option).unwrap_or(0);
-    same(&option, 0, size, b"--opb", 0, OPTION_BYTES)
+    &option[..size] == b"--opb".as_slice()
 }
 
 // Whether there is an argument in this place, of whatever length.
@@ -178,7 +169,7 @@ fn has_argument(rt: &HostRuntime, place: usize) -> bool {
 
 fn main(rt: HostRuntime) {
     if !has_argument(&rt, 1) {
-        check_input(&rt);
+        check_input(&rt, cutting_planes_check);
         return;
     }
     if has_argument(&rt, 2) && !has_argument(&rt, 3) && is_option(&rt) {

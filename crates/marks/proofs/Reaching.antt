@@ -24,9 +24,8 @@ use Rattle.nodes.specs.Nodes.{decode, Below}
 use Rattle.nodes.proofs.Tables.{below_at, below_more}
 use Rattle.matching.specs.Matched.{Text, term, ConstantAt, PairAt, lit_at, variable_of, negated_of, SplitIs}
 use Rattle.matching.proofs.Checks.{bind-of, bind-bad, or_of, or-bad}
-use Rattle.sums.specs.Found.{SummandAt, RefusedAt}
-use Rattle.sums.specs.Lists.{max_total}
-use Rattle.sums.proofs.Reading.{all_cons, all_nil, drop_end, over-long, by_lone}
+use Rattle.sums.specs.Found.{SummandAt}
+use Rattle.sums.proofs.Reading.{all_cons, all_nil, drop_end, sum-40, by_lone}
 use Rattle.theorems.proofs.GreatestLaws.{total-bound}
 use Rattle.theorems.proofs.SumLaws.{same_lit-eq, scale, Distinct, total, total-put, distinct-put}
 use Rattle.marks.specs.Values.{ReachIs, OtherIs, ReachedIs}
@@ -79,18 +78,11 @@ reach-start t ts = record {
 }
 
 module _ {t ts : List ℕ} {ones zeros : ℤ} {i : ℕ} (R : Reaching t ts ones zeros i) where
-  module _ (few : i ≤ max_summands) where
-    pub ones-within : Within max_total ones
-    ones-within = within_more (omega arith) R.within-ones
-
-    pub zeros_within : Within max_total zeros
-    zeros_within = within_more (omega arith) R.within-zeros
-
   -- a term that is no summand
-  pub reach-refused : i < length ts → (number : ℕ) → RefusedAt (λ (s : List ℕ). summand (decode s t (get_or ts i 0))) number → (z : ℤ) → ReachIs t ts z true
+  pub reach-refused : i < length ts → (number : ℕ) → ((s : List ℕ) → summand (decode s t (get_or ts i 0)) ≡ bad number) → (z : ℤ) → ReachIs t ts z true
   reach-refused h number B z e x b =
       let q : Summed x ts ones zeros i = R.summed x b in
-      sym (beyond-bad _ number (bind-bad _ _ number (q.is ∙ rw (from-here ts i h, all_cons) (bind-bad _ _ number (B.is x.text)))))
+      sym (beyond-bad _ number (bind-bad _ _ number (q.is ∙ rw (from-here ts i h, all_cons) (bind-bad _ _ number (B x.text)))))
 
   module _ (h : i < length ts) {k : ℕ} {c : ℤ} (S : SummandAt t (get_or ts i 0) k c) where
     more : (i + 1) * max_numeral ≡ i * max_numeral + max_numeral
@@ -205,10 +197,10 @@ pub record Walked (t ts : List ℕ) (i : ℕ) : Type 0 where
   pub so_far : (x : Text t) → Below x.n ts → (E : List Entry) × (summands (listed (map (term x) ts)) [] ≡ summands (listed (map (term x) (drop i ts))) E)
 
 module _ {t ts : List ℕ} {i : ℕ} (W : Walked t ts i) (h : i < length ts) where
-  pub walk_refused : (number : ℕ) → RefusedAt (λ (s : List ℕ). summand (decode s t (get_or ts i 0))) number → OtherIs t ts true
+  pub walk_refused : (number : ℕ) → ((s : List ℕ) → summand (decode s t (get_or ts i 0)) ≡ bad number) → OtherIs t ts true
   walk_refused number B z e x b =
       let (E, q) = W.so_far x b in
-      sym (beyond-bad _ number (bind-bad _ _ number (q ∙ rw (from-here ts i h, all_cons) (bind-bad _ _ number (B.is x.text)))))
+      sym (beyond-bad _ number (bind-bad _ _ number (q ∙ rw (from-here ts i h, all_cons) (bind-bad _ _ number (B x.text)))))
 
   module _ {k : ℕ} {c : ℤ} (S : SummandAt t (get_or ts i 0) k c) where
     one-summand : (x : Text t) (b : Below x.n ts) (E : List Entry) → summands (listed (map (term x) (drop i ts))) E ≡ summands (listed (map (term x) (drop (i + 1) ts))) (put (lit_at (term x) k) c E)
@@ -226,10 +218,6 @@ module _ {t ts : List ℕ} {i : ℕ} (W : Walked t ts i) (h : i < length ts) whe
         ∙ stays z _ (put (lit_at (term x) k) c E) (put_other (lit_at (term x) k) c E (sym (f x.text)))
 
 -- ---- an inequality
--- an answer no says nothing
-pub reached_not : (t : List ℕ) (i : ℕ) → ReachedIs t i false
-reached_not t i e = absurd (subst T (sym e) tt)
-
 module _ {t : List ℕ} {i : ℕ} where
   -- it is no `>=` of two terms
   pub reached-other : ((s : List ℕ) → binary (op_of 3) (decode s t i) ≡ bad 0) → ReachedIs t i true
@@ -251,7 +239,7 @@ module _ {t : List ℕ} {i : ℕ} where
       module _ {l : List ℕ} (S : SplitIs t a l) where
         pub reached-long : max_summands < length l → ReachedIs t i true
         unfolding bind
-        reached-long h e x g = sym (beyond-bad _ 40 (by-sum x (bad 40) (over-long S h x.text)))
+        reached-long h e x g = sym (beyond-bad _ 40 (by-sum x (bad 40) (sum-40 S h x.text)))
 
         pub reached-sum : length l ≤ max_summands → ((s : List ℕ) → lone_constant (listed (map (decode s t) l)) ≡ bad 0) → (y : ℤ) (r : Bool) → y ≡ z → ReachIs t l y r → ReachedIs t i r
         unfolding sum_or

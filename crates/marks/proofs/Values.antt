@@ -2,7 +2,7 @@
 use mathlib.Core.Path.{◌≡◌, refl, sym, ap, ◌∙◌}
 use mathlib.Core.Bool.{Bool, true, false, not, cond, ◌&&◌}
 use mathlib.Core.List.{List, [], ◌∷◌, map}
-use Prim.Native.Nat.{ℕ, zero, suc, ◌+◌, ◌*◌, ◌-◌, ◌≤◌, ◌<◌}
+use Prim.Native.Nat.{ℕ, ◌+◌, ◌*◌, ◌-◌, ◌≤◌, ◌<◌}
 use native.Mathlib.Omega.{arith}
 use lib.IntN.{ℤ, pos, ◌+ℤ◌, +ℤ_idr, +ℤ_assoc}
 use lib.ListN.{length, get_or}
@@ -27,7 +27,7 @@ use Rattle.matching.proofs.Matches.{kept, key-variable, key-literal}
 use Rattle.matching.proofs.Places.{key-at, coefficient-at}
 use Rattle.matching.proofs.Runs.{run_more, run_none}
 use Rattle.sums.specs.Found.{FindIs, InequalityIs}
-use Rattle.sums.specs.Lists.{index_of, Bounded, Fine, max_total, res_of}
+use Rattle.sums.specs.Lists.{index_of, Bounded, Fine, max_total}
 use Rattle.sums.specs.Places.{slotted, Room, Keyed, Elsewhere}
 use Rattle.sums.proofs.Places.{room-still}
 use Rattle.sums.proofs.Runs.{has-yes, has_no, get_at, get_none}
@@ -164,16 +164,9 @@ pub beyond-bad : (r : Res Inequality) (n : ℕ) → r ≡ bad n → false ≡ be
 unfolding beyond
 beyond-bad r n e = rw e
 
--- a number that is not 0
-beyond-refused : (r : Res Inequality) (n : ℕ) (q : Inequality) → r ≡ res_of n q → (n ≡ 0 → ⊥) → false ≡ beyond r
-unfolding res_of
-beyond-refused r zero q e f = absurd (f refl)
-beyond-refused r (suc n) q e f = beyond-bad r (suc n) e
-
-beyond-of : (r : Res Inequality) (n : ℕ) (q : Inequality) → r ≡ res_of n q → n ≡ 0 → (a b : Bool) → a ≡ all_names q.sum → b ≡ lt_z (greatest q.sum) q.const → a && b ≡ beyond r
-unfolding res_of beyond
-beyond-of r zero q e h a b f g = rw (e, f, g)
-beyond-of r (suc n) q e h a b f g = let z : ⊥ = omega arith in absurd z
+beyond-of : (r : Res Inequality) (q : Inequality) → r ≡ ok q → (a b : Bool) → a ≡ all_names q.sum → b ≡ lt_z (greatest q.sum) q.const → a && b ≡ beyond r
+unfolding beyond
+beyond-of r q e a b f g = rw (e, f, g)
 
 module _ (t l : List ℕ) where
   pub clause-count : (length l ≡ 1 → ⊥) → UnreachableIs t l false
@@ -191,15 +184,14 @@ module _ (t l : List ℕ) where
     pub clause-reached : (r : Bool) → ReachedIs t (get_or l 0 0) r → r ≡ true → UnreachableIs t l false
     clause-reached r R h x below = clause-is x false (sym (R h x (clause-below below)))
 
-    module _ {number : ℕ} {k : ℤ} {cs : List ℤ} {ks sl : List ℕ} {n : ℕ} (I : InequalityIs t (get_or l 0 0) number k cs ks sl n) where
-      pub clause-refused : (number ≡ 0 → ⊥) → UnreachableIs t l false
-      clause-refused f x below = clause-is x false (beyond-refused _ number _ (I.is x (clause-below below)) f)
+    pub clause-refused : {number : ℕ} → ((x : Text t) → get_or l 0 0 < x.n → unwrap_inequality (term x (get_or l 0 0)) ≡ bad number) → UnreachableIs t l false
+    clause-refused {number} B x below = clause-is x false (beyond-bad _ number (B x (clause-below below)))
 
-      module _ (z : number ≡ 0) where
-        pub clause-terms : {a : Bool} → NamesAre t ks n a → a ≡ false → UnreachableIs t l false
-        clause-terms N q x below = clause-is x false (beyond-of _ number _ (I.is x (clause-below below)) z false _ (sym q ∙ N x.text cs) refl)
+    module _ {k : ℤ} {cs : List ℤ} {ks sl : List ℕ} {n : ℕ} (I : InequalityIs t (get_or l 0 0) k cs ks sl n) where
+      pub clause-terms : {a : Bool} → NamesAre t ks n a → a ≡ false → UnreachableIs t l false
+      clause-terms N q x below = clause-is x false (beyond-of _ _ (I.is x (clause-below below)) false _ (sym q ∙ N x.text cs) refl)
 
-        pub clause-beyond : {a : Bool} → NamesAre t ks n a → a ≡ true → {v : ℤ} → GreatestIs t cs ks n v → (r : Bool) → r ≡ lt_z (to_z w64 (of_z w64 v)) (to_z w64 (of_z w64 k)) → UnreachableIs t l r
-        clause-beyond N q {v} G r h x below =
-            let under : Under x.n ks n = λ i m. omega (arith, I.under i m, clause-below below) in
-            clause-is x r (beyond-of _ number _ (I.is x (clause-below below)) z true r (sym q ∙ N x.text cs) (h ∙ rw (kept (omega arith) G.within, kept (omega arith) I.within, G.is x under)))
+      pub clause-beyond : {a : Bool} → NamesAre t ks n a → a ≡ true → {v : ℤ} → GreatestIs t cs ks n v → (r : Bool) → r ≡ lt_z (to_z w64 (of_z w64 v)) (to_z w64 (of_z w64 k)) → UnreachableIs t l r
+      clause-beyond N q {v} G r h x below =
+          let under : Under x.n ks n = λ i m. omega (arith, I.under i m, clause-below below) in
+          clause-is x r (beyond-of _ _ (I.is x (clause-below below)) true r (sym q ∙ N x.text cs) (h ∙ rw (kept (omega arith) G.within, kept (omega arith) I.within, G.is x under)))

@@ -15,9 +15,9 @@ ghost use Rattle.sums.specs.Places.{left_at, Room, Keyed};
 ghost use Rattle.marks.specs.Arguments.{arguments_at};
 ghost use Rattle.marks.specs.Values.{GreatestAtIs, GreatestIs, ReachIs, OtherIs, ReachedIs, UnreachableIs};
 
-use matching::{AND, Constant, EQ, GE, MAX_SUMMANDS, Pair};
+use matching::{AND, EQ, GE, MAX_SUMMANDS};
 use nodes::PLUS_KIND;
-use sums::{LEFT, Summand, find, lone_constant, read_summand, unwrap_pseudoboolean_inequality};
+use sums::{LEFT, find, lone_constant, read_summand, unwrap_pseudoboolean_inequality};
 
 // ---- arithmetic
 // Whether node i, an application, is one of `+ - *` over arithmetic.
@@ -125,71 +125,43 @@ fn greatest_at(
     integer::larger(a, b)
 }
 
-// A value that is being added up.
-#[derive(Drop)]
-pub struct Value {
-    pub value: i64,
-}
-
 // The greatest value, over all 0-1 assignments, of the n entries at a place.
-fn greatest(
-    nodes: &[u32],
-    coeffs: &[i64],
-    keys: &[u32],
-    slots: &[u16],
-    at: usize,
-    n: usize,
-) -> Value
+fn greatest(nodes: &[u32], coeffs: &[i64], keys: &[u32], slots: &[u16], at: usize, n: usize) -> i64
     requires keyed { Keyed nodes.now at keys.now slots.now n × (at + n ≤ length coeffs.now) × (n ≤ max_summands) }
     requires bounded { Bounded max_total (placed at coeffs.now) n }
-    ensures { GreatestIs nodes.now (placed at coeffs.now) (placed at keys.now) n result.value }
+    ensures { GreatestIs nodes.now (placed at coeffs.now) (placed at keys.now) n result }
 {
-    let mut sum = Value { value: 0 };
+    let mut value = 0;
     for i in 0..n {
-        let one = greatest_at(nodes, coeffs, keys, slots, at, n, i);
-        let value = integer::add(sum.value, one);
-        sum = Value { value };
+        value = integer::add(value, greatest_at(nodes, coeffs, keys, slots, at, n, i));
     }
-    sum
+    value
 }
 
 // ---- lines within reach
-// The values of a sum where each name is 1, and where each is 0.
-#[derive(Drop)]
-pub struct Ends {
-    pub ones: i64,
-    pub zeros: i64,
-}
-
 // Whether the terms ts, no lone numeral, are no sum, or one that is at least the constant where each name is 1, or where each is 0.
 fn reach(nodes: &[u32], ts: &[u32], constant: i64) -> bool
     requires all_nodes { AllNodes nodes.now ts.now × (length ts.now ≤ max_summands) }
     requires within { Within max_numeral constant }
     ensures { ReachIs nodes.now ts.now constant result }
 {
-    let mut ends = Ends { ones: 0, zeros: 0 };
+    // the values of the sum where each name is 1, and where each is 0
+    let mut ones = 0;
+    let mut zeros = 0;
     for t in ts {
-        match read_summand(nodes, *t) {
-            Summand::Refused(_) => {
-                return true;
-            }
-            Summand::Is(key, c) => {
-                let ones = ends.ones;
-                let zeros = ends.zeros;
-                if matching::negated_of(key) {
-                    let more = integer::add(zeros, c);
-                    ends = Ends { ones, zeros: more };
-                } else {
-                    let more = integer::add(ones, c);
-                    ends = Ends { ones: more, zeros };
-                }
-            }
+        let Ok((key, c)) = read_summand(nodes, *t) else {
+            return true;
+        };
+        if matching::negated_of(key) {
+            zeros = integer::add(zeros, c);
+        } else {
+            ones = integer::add(ones, c);
         }
     }
-    if integer::at_most(constant, ends.ones) {
+    if integer::at_most(constant, ones) {
         return true;
     }
-    integer::at_most(constant, ends.zeros)
+    integer::at_most(constant, zeros)
 }
 
 // Whether the terms ts, no lone numeral, are no sum over names: a sum over other terms is not made, since their keys are found by walking.
@@ -198,15 +170,11 @@ fn other_terms(nodes: &[u32], ts: &[u32]) -> bool
     ensures { OtherIs nodes.now ts.now result }
 {
     for t in ts {
-        match read_summand(nodes, *t) {
-            Summand::Refused(_) => {
-                return true;
-            }
-            Summand::Is(key, _) => {
-                if !matching::is_name(nodes, matching::variable_of(key)) {
-                    return true;
-                }
-            }
+        let Ok((key, _)) = read_summand(nodes, *t) else {
+            return true;
+        };
+        if !matching::is_name(nodes, matching::variable_of(key)) {
+            return true;
         }
     }
     false
@@ -217,27 +185,20 @@ fn reached(nodes: &[u32], i: u32) -> bool
     requires { Node nodes.now i }
     ensures { ReachedIs nodes.now i result }
 {
-    match matching::binary(nodes, GE, i) {
-        Pair::Not => true,
-        Pair::Of(pbsum, constant) => match matching::as_constant(nodes, constant) {
-            Constant::Not => true,
-            Constant::Is(z) => {
-                let one = [pbsum; 1];
-                let ts = matching::split_summation(nodes, &one, pbsum);
-                if ts.len() > MAX_SUMMANDS {
-                    return true;
-                }
-                match lone_constant(nodes, ts) {
-                    Constant::Is(_) => false,
-                    Constant::Not => {
-                        if reach(nodes, ts, z) {
-                            return true;
-                        }
-                        other_terms(nodes, ts)
-                    }
-                }
-            }
-        },
+    let Some((pbsum, constant)) = matching::binary(nodes, GE, i) else {
+        return true;
+    };
+    let Some(z) = matching::as_constant(nodes, constant) else {
+        return true;
+    };
+    let one = [pbsum; 1];
+    let ts = matching::split_summation(nodes, &one, pbsum);
+    if ts.len() > MAX_SUMMANDS {
+        return true;
+    }
+    match lone_constant(nodes, ts) {
+        Some(_) => false,
+        None => reach(nodes, ts, z) || other_terms(nodes, ts),
     }
 }
 
@@ -261,13 +222,12 @@ pub fn unreachable(
     if reached(nodes, i) {
         return false;
     }
-    let read = unwrap_pseudoboolean_inequality(nodes, i, coeffs, keys, slots, LEFT);
-    if read.number != 0 {
+    let Ok(read) = unwrap_pseudoboolean_inequality(nodes, i, coeffs, keys, slots, LEFT) else {
         return false;
-    }
+    };
     if !matching::all_names(nodes, keys, LEFT, read.count) {
         return false;
     }
-    let sum = greatest(nodes, coeffs, keys, slots, LEFT, read.count);
-    integer::less(sum.value, read.constant)
+    let value = greatest(nodes, coeffs, keys, slots, LEFT, read.count);
+    integer::less(value, read.constant)
 }

@@ -5,7 +5,7 @@ ghost use Rattle.std.specs.Prelude.{◌≡◌, not, ◌&&◌, List, [], ◌∷�
 ghost use Rattle.calculus.specs.Matching.{is_name};
 ghost use Rattle.nodes.specs.Nodes.{plus_kind, max_capacity, first_at, decode, Node};
 ghost use Rattle.matching.specs.Entries.{Variables, NamesAre};
-ghost use Rattle.matching.specs.Matched.{ConstantIs, PairIs, NegationIs, SplitIs, key_of, variable_of, negated_of, LiteralIs, NumberIs, KeyIs};
+ghost use Rattle.matching.specs.Matched.{refusal_number, ConstantIs, PairIs, NegationIs, SplitIs, key_of, variable_of, negated_of, LiteralIs, NumberIs, KeyIs};
 ghost use Rattle.matching.specs.Places.{max_entries, max_place, placed};
 
 use nodes::{MINUS_KIND, NAME_KIND, PLUS_KIND};
@@ -32,50 +32,41 @@ pub const AND: u32 = 8;
 // The most summands of a sum, and leaves of a general relation.
 pub const MAX_SUMMANDS: usize = 512;
 
-// The answer numbers of document 01 that a step can get.
-pub const WRONG_NUMBER_OF_PREMISES: u8 = 20;
+// What refuses a step, by document 01's number of the answer.
+#[derive(Clone, Copy, PartialEq, Eq)]
+pub enum Refusal {
+    WrongNumberOfPremises = 20,
+    WrongLengthOfClause = 21,
+    WrongNumberOfArgs = 22,
+    TermOfWrongForm = 23,
+    ExpectedAnyInteger = 24,
+    LoneConstant = 25,
+    NeitherPlainNorNegated = 26,
+    ExpectedNonnegInteger = 27,
+    DivOrModByZero = 28,
+    ConstantsDiffer = 29,
+    LiteralMissing = 30,
+    CoefficientDiffers = 31,
+    NegativeInSaturation = 32,
+    NotAVariable = 33,
+    CoefficientNotOne = 34,
+    LiteralDiffers = 35,
+    NoLiteralPattern = 36,
+    NoSupportedRelation = 37,
+    ConstantInNormalizedSum = 38,
+    ListsDiffer = 39,
+    TooManySummands = 40,
+    NoLink = 41,
+}
 
-pub const WRONG_LENGTH_OF_CLAUSE: u8 = 21;
+// The number that a report has.
+impl From<Refusal> for u8 {
+    ghost from_gives = { λ refusal number. number ≡ refusal_number refusal };
 
-pub const WRONG_NUMBER_OF_ARGS: u8 = 22;
-
-pub const TERM_OF_WRONG_FORM: u8 = 23;
-
-pub const EXPECTED_ANY_INTEGER: u8 = 24;
-
-pub const LONE_CONSTANT: u8 = 25;
-
-pub const NEITHER_PLAIN_NOR_NEGATED: u8 = 26;
-
-pub const EXPECTED_NONNEG_INTEGER: u8 = 27;
-
-pub const DIV_OR_MOD_BY_ZERO: u8 = 28;
-
-pub const CONSTANTS_DIFFER: u8 = 29;
-
-pub const LITERAL_MISSING: u8 = 30;
-
-pub const COEFFICIENT_DIFFERS: u8 = 31;
-
-pub const NEGATIVE_IN_SATURATION: u8 = 32;
-
-pub const NOT_A_VARIABLE: u8 = 33;
-
-pub const COEFFICIENT_NOT_ONE: u8 = 34;
-
-pub const LITERAL_DIFFERS: u8 = 35;
-
-pub const NO_LITERAL_PATTERN: u8 = 36;
-
-pub const NO_SUPPORTED_RELATION: u8 = 37;
-
-pub const CONSTANT_IN_NORMALIZED_SUM: u8 = 38;
-
-pub const LISTS_DIFFER: u8 = 39;
-
-pub const TOO_MANY_SUMMANDS: u8 = 40;
-
-pub const NO_LINK: u8 = 41;
+    fn from(refusal: Refusal) -> u8 {
+        refusal as u8
+    }
+}
 
 // A pol line whose stack runs short, overflows or, after all words, has not one entry.
 pub const MISCOUNTED: u8 = 52;
@@ -86,12 +77,8 @@ pub const BEYOND: u8 = 53;
 // A pol line that pushes an id whose clause is no inequality over names, or whose word fails a rule's check of signs.
 pub const UNFIT: u8 = 54;
 
-// The answer of a step: accepted with the mark plain, or refused with document 01's number.
-#[derive(Drop)]
-pub enum Answer {
-    Accepted(bool),
-    Refused(u8),
-}
+// The answer of a step: accepted with the mark plain, or refused.
+pub type Answer = Result<bool, Refusal>;
 
 // Whether both hold.
 pub fn both(a: bool, b: bool) -> bool
@@ -108,27 +95,20 @@ fn magnitude_of(nodes: &[u32], i: usize) -> u32
     nodes[3 * i + 1]
 }
 
-// A numeral's number, or that the term is none.
-#[derive(Drop)]
-pub enum Constant {
-    Is(i64),
-    Not,
-}
-
-// The number that node i is.
-pub fn as_constant(nodes: &[u32], i: u32) -> Constant
+// The number that node i is, if it is a numeral.
+pub fn as_constant(nodes: &[u32], i: u32) -> Option<i64>
     requires { Node nodes.now i }
     ensures { ConstantIs nodes.now i result }
 {
     let at = nodes::wide(i);
     let kind = nodes::kind_of(nodes, at);
     if kind == PLUS_KIND {
-        return Constant::Is(integer::with_sign(false, magnitude_of(nodes, at)));
+        return Some(integer::with_sign(false, magnitude_of(nodes, at)));
     }
     if kind == MINUS_KIND {
-        return Constant::Is(integer::with_sign(true, magnitude_of(nodes, at)));
+        return Some(integer::with_sign(true, magnitude_of(nodes, at)));
     }
-    Constant::Not
+    None
 }
 
 // Whether node i is a name.
@@ -139,55 +119,31 @@ pub fn is_name(nodes: &[u32], i: u32) -> bool
     nodes::kind_of(nodes, nodes::wide(i)) >= NAME_KIND
 }
 
-// Two arguments, or that there are not exactly two.
-#[derive(Drop)]
-pub enum Pair {
-    Of(u32, u32),
-    Not,
-}
-
 // The arguments of node i, if it is (op a b).
-pub fn binary(nodes: &[u32], op: u32, i: u32) -> Pair
+pub fn binary(nodes: &[u32], op: u32, i: u32) -> Option<(u32, u32)>
     requires node { Node nodes.now i }
     requires op_lt_plus_kind { op < plus_kind }
     ensures { PairIs nodes.now op i result }
 {
     let at = nodes::wide(i);
     if nodes::kind_of(nodes, at) != op {
-        return Pair::Not;
+        return None;
     }
     let arguments = nodes::children(nodes, at);
     if arguments.len() != 2 {
-        return Pair::Not;
+        return None;
     }
-    Pair::Of(arguments[0], arguments[1])
-}
-
-// What is negated, or that the term is no negation.
-#[derive(Drop)]
-pub enum Negation {
-    Of(u32),
-    Not,
+    Some((arguments[0], arguments[1]))
 }
 
 // The w of node v, if it is (- 1 w).
-pub fn negation_of(nodes: &[u32], v: u32) -> Negation
+pub fn negation_of(nodes: &[u32], v: u32) -> Option<u32>
     requires { Node nodes.now v }
     ensures { NegationIs nodes.now v result }
 {
-    match binary(nodes, SUB, v) {
-        Pair::Not => Negation::Not,
-        Pair::Of(a, w) => match as_constant(nodes, a) {
-            Constant::Not => Negation::Not,
-            Constant::Is(z) => {
-                if integer::equal(z, 1) {
-                    Negation::Of(w)
-                } else {
-                    Negation::Not
-                }
-            }
-        },
-    }
+    let (a, w) = binary(nodes, SUB, v)?;
+    let z = as_constant(nodes, a)?;
+    if integer::equal(z, 1) { Some(w) } else { None }
 }
 
 // ---- literals as keys: twice the variable's node, and one more where the literal is negated
@@ -231,8 +187,8 @@ pub fn literal_of(nodes: &[u32], v: u32) -> u32
     ensures { LiteralIs nodes.now v result }
 {
     match negation_of(nodes, v) {
-        Negation::Of(w) => key_of(w, true),
-        Negation::Not => key_of(v, false),
+        Some(w) => key_of(w, true),
+        None => key_of(v, false),
     }
 }
 
@@ -254,8 +210,8 @@ pub fn literal_key(nodes: &[u32], v: u32) -> u32
     ensures { KeyIs nodes.now v result }
 {
     match negation_of(nodes, v) {
-        Negation::Of(w) => key_of(number_of(nodes, w), true),
-        Negation::Not => key_of(number_of(nodes, v), false),
+        Some(w) => key_of(number_of(nodes, w), true),
+        None => key_of(number_of(nodes, v), false),
     }
 }
 

@@ -99,27 +99,22 @@ module _ (t l : List ℕ) (cs : List ℤ) (ks : List ℕ) (d : ℕ) (low : d < m
   pub pushed_none : (length l ≡ 1 → ⊥) → LinePushed t l cs ks d cs ks 54
   pushed_none h = refused (λ x U B. failing x (line-none (term x) l h))
 
-  module _ (one : length l ≡ 1) {us : List ℤ} {vs sl : List ℕ} {number n : ℕ} {c : ℤ} (Q : InequalityIs t (get_or l 0 0) number c us vs sl n) where
-    pub pushed_unread : {bs : List ℤ} {js : List ℕ} → (number ≡ 0 → ⊥) → LinePushed t l cs ks d bs js 54
-    unfolding bind res_of or_bad
-    pushed_unread h = refused (λ x U B. failing x (line-one (term x) l one ∙ unread x number (Q.is x (B 0 (omega arith))) h))
-      where
-        unread : (x : Text t) (number : ℕ) → unwrap_inequality (term x (get_or l 0 0)) ≡ res_of number (record { sum = entries (term x) us vs n; const = c }) → (number ≡ 0 → ⊥)
-            → bind (or_bad 54 (unwrap_inequality (term x (get_or l 0 0)))) (λ q. ensure (all_names q.sum) 54 (ok q)) ≡ bad 54
-        unread x zero e h = absurd (h refl)
-        unread x (suc m) e h = rw e
+  module _ (one : length l ≡ 1) where
+    pub pushed_unread : {number : ℕ} → ((x : Text t) → get_or l 0 0 < x.n → unwrap_inequality (term x (get_or l 0 0)) ≡ bad number) → {bs : List ℤ} {js : List ℕ} → LinePushed t l cs ks d bs js 54
+    unfolding bind or_bad
+    pushed_unread R = refused {l = l} (λ x U B. failing x (line-one (term x) l one ∙ rw (R x (B 0 (omega arith)))))
 
-    module _ (zero_is : number ≡ 0) where
+    module _ {us : List ℤ} {vs sl : List ℕ} {n : ℕ} {c : ℤ} (Q : InequalityIs t (get_or l 0 0) c us vs sl n) where
       read : (x : Text t) → AllUnder x.n l → line_inequality (map (term x) l) ≡ ensure (all_names (entries (term x) us vs n)) 54 (ok (record { sum = entries (term x) us vs n; const = c }))
-      unfolding bind or_bad res_of
-      read x B = line-one (term x) l one ∙ rw (rw zero_is at (Q.is x (B 0 (omega arith))))
+      unfolding bind or_bad
+      read x B = line-one (term x) l one ∙ rw (Q.is x (B 0 (omega arith)))
 
       pub pushed-other : {bs : List ℤ} {js : List ℕ} {b : Bool} → NamesAre t vs n b → b ≡ false → LinePushed t l cs ks d bs js 54
       unfolding ensure
       pushed-other N e = refused (λ x U B. failing x (read x B ∙ rw (← N x.text us, e)))
 
   -- over names, and kept or too large
-  module _ (one : length l ≡ 1) {sl tl ml : List ℕ} {bs ds : List ℤ} {js ls : List ℕ} {n r : ℕ} {c : ℤ} (Q : InequalityIs t (get_or l 0 0) 0 c (placed left_at bs) (placed left_at js) ml n) (E : Elsewhere left_at cs ks sl bs js tl)
+  module _ (one : length l ≡ 1) {sl tl ml : List ℕ} {bs ds : List ℤ} {js ls : List ℕ} {n r : ℕ} {c : ℤ} (Q : InequalityIs t (get_or l 0 0) c (placed left_at bs) (placed left_at js) ml n) (E : Elsewhere left_at cs ks sl bs js tl)
       (N : NamesAre t (placed left_at js) n true) (K : Stack t cs ks d) (P : KeptIs bs js left_at left_at n c d ds ls r) where
     coefficients : (e : ℕ) → window e bs ≡ window e cs
     coefficients e = window-still (pos 0) e (omega arith) E.coefficients

@@ -193,7 +193,7 @@ fn sum_of_two(
     let slack = sums::reduce_pbsum(nodes, coeffs, keys, slots, LEFT, both, RIGHT);
     Total {
         count: both,
-        constant: integer::subtract(total, slack.slack),
+        constant: integer::subtract(total, slack),
     }
 }
 
@@ -333,10 +333,11 @@ pub fn push_line(
     if clause.len() != 1 {
         return UNFIT;
     }
-    let line = sums::unwrap_pseudoboolean_inequality(nodes, clause[0], coeffs, keys, slots, LEFT);
-    if line.number != 0 {
+    let Ok(line) = sums::unwrap_pseudoboolean_inequality(
+        nodes, clause[0], coeffs, keys, slots, LEFT,
+    ) else {
         return UNFIT;
-    }
+    };
     if !matching::all_names(nodes, keys, LEFT, line.count) {
         return UNFIT;
     }

@@ -9,120 +9,100 @@ ghost use Rattle.reader.specs.Commands.{all_words};
 
 use nodes::child_base;
 use reader::{COMMAND_WORDS, ID_WORDS, NODE_WORDS, Whole, read_file};
+use std::io;
 use std::io::Read;
 
 // One byte more than a text may have.
 const TEXT_BYTES: usize = 32769;
 
-// Writes bytes.
-fn put(rt: &impl Print, text: &[u8]) {
-    let _ = rt.write_all(text);
-}
-
-// Writes a number behind a text.
-fn put_number(rt: &impl Print, before: &[u8], n: u64) {
-    put(rt, before);
-    let _ = rt.print(n);
-}
-
-// Writes a word behind a blank.
-fn put_word(rt: &impl Print, word: u32) {
-    put_number(rt, b" ", word as u64);
-}
-
-// Writes a word of two bytes behind a blank.
-fn put_short(rt: &impl Print, word: u16) {
-    put_number(rt, b" ", word as u64);
-}
-
-// Writes the words from..to, of two bytes each.
-fn put_words(rt: &impl Print, words: &[u16], from: usize, to: usize)
-    requires { to ≤ length words.now }
-{
-    for i in from..to {
-        put_short(rt, words[i]);
+// Writes each word behind a blank.
+fn put_words(rt: &impl Print, words: &[u16]) -> io::Result<()> {
+    for word in words {
+        print!(rt; " {word}")?;
     }
+    Ok(())
 }
 
 // A line for each of the k commands: where its id starts and ends before the text's end, its kind and its parts.
-fn put_commands(rt: &impl Print, commands: &[u16], k: usize)
+fn put_commands(rt: &impl Print, commands: &[u16], k: usize) -> io::Result<()>
     requires { (k ≤ max_commands) × (all_words ≤ length commands.now) }
 {
     for i in 0..k {
-        put(rt, b"command");
-        put_words(rt, commands, 2 * i, 2 * i + 2);
-        put_words(rt, commands, ID_WORDS + 7 * i, ID_WORDS + 7 * i + 7);
-        put(rt, b"\n");
+        print!(rt; "command")?;
+        put_words(rt, &commands[2 * i..2 * i + 2])?;
+        put_words(rt, &commands[ID_WORDS + 7 * i..ID_WORDS + 7 * i + 7])?;
+        println!(rt)?;
     }
+    Ok(())
 }
 
 // A line for each of the n nodes: its kind and two words.
-fn put_nodes(rt: &impl Print, nodes: &[u32], n: usize)
+fn put_nodes(rt: &impl Print, nodes: &[u32], n: usize) -> io::Result<()>
     requires { (n ≤ capacity nodes.now) × (capacity nodes.now ≤ max_capacity) }
 {
     for i in 0..n {
-        put(rt, b"node");
-        put_word(rt, nodes[3 * i]);
-        put_word(rt, nodes[3 * i + 1]);
-        put_word(rt, nodes[3 * i + 2]);
-        put(rt, b"\n");
+        println!(rt;
+            "node {} {} {}",
+            nodes[3 * i],
+            nodes[3 * i + 1],
+            nodes[3 * i + 2]
+        )?;
     }
+    Ok(())
 }
 
 // A line for each of the c child words.
-fn put_children(rt: &impl Print, nodes: &[u32], c: usize)
+fn put_children(rt: &impl Print, nodes: &[u32], c: usize) -> io::Result<()>
     requires { (c ≤ capacity nodes.now) × (capacity nodes.now ≤ max_capacity) }
 {
     let base = child_base(nodes);
     for word in &nodes[base..base + c] {
-        put(rt, b"child");
-        put_word(rt, *word);
-        put(rt, b"\n");
+        println!(rt; "child {word}")?;
     }
+    Ok(())
 }
 
 // The line of the counts, then those of the commands, the nodes and the child words.
-fn put_tables(rt: &impl Print, nodes: &[u32], commands: &[u16], k: usize, n: usize, c: usize)
+fn put_tables(
+    rt: &impl Print,
+    nodes: &[u32],
+    commands: &[u16],
+    k: usize,
+    n: usize,
+    c: usize,
+) -> io::Result<()>
     requires { (k ≤ max_commands) × (all_words ≤ length commands.now) × (n ≤ capacity nodes.now) × (c ≤ capacity nodes.now) × (capacity nodes.now ≤ max_capacity) }
 {
-    put_number(rt, b"commands=", k as u64);
-    put_number(rt, b" nodes=", n as u64);
-    put_number(rt, b" children=", c as u64);
-    put(rt, b"\n");
-    put_commands(rt, commands, k);
-    put_nodes(rt, nodes, n);
-    put_children(rt, nodes, c);
-}
-
-// The line of a refusal.
-fn put_refusal(rt: &impl Print, number: u8, byte: usize) {
-    put_number(rt, b"refused=", number as u64);
-    put_number(rt, b" byte=", byte as u64);
-    put(rt, b"\n");
+    println!(rt; "commands={k} nodes={n} children={c}")?;
+    put_commands(rt, commands, k)?;
+    put_nodes(rt, nodes, n)?;
+    put_children(rt, nodes, c)
 }
 
 // Reads a text into the lent tables and prints what was read.
-fn put_read(rt: &impl Print, text: &[u8], nodes: &mut [u32], commands: &mut [u16]) {
+fn put_read(
+    rt: &impl Print,
+    text: &[u8],
+    nodes: &mut [u32],
+    commands: &mut [u16],
+) -> io::Result<()> {
     match read_file(text, nodes, commands) {
         Whole::All(k, n, c, _) => put_tables(rt, nodes, commands, k, n, c),
-        Whole::Refused(number, byte) => put_refusal(rt, number, byte),
-        Whole::Small => {}
+        Whole::Refused(number, byte) => println!(rt; "refused={number} byte={byte}"),
+        Whole::Small => Ok(()),
     }
 }
 
 // Reads from an open file until it ends, a read fails or buf is full, and answers how many bytes were read.
-fn read_full<F: Read>(file: &mut F, buf: &mut [u8]) -> usize
+fn read_full(file: &mut impl Read, buf: &mut [u8]) -> usize
     ensures { result ≤ length buf.new }
 {
     let mut done = 0;
     while done < buf.len() {
-        let Ok(more) = file.read(&mut buf[done..]) else {
-            break;
-        };
-        if more == 0 {
-            break;
+        match file.read(&mut buf[done..]) {
+            Ok(0) | Err(_) => break,
+            Ok(more) => done += more,
         }
-        done += more;
     }
     done
 }
@@ -132,5 +112,6 @@ fn main(rt: HostRuntime) {
     let mut nodes = [0u32; NODE_WORDS];
     let mut commands = [0u16; COMMAND_WORDS];
     let got = read_full(&mut rt.stdin(), &mut text);
-    put_read(&rt, &text[..got], &mut nodes, &mut commands);
+    // nobody is told of output that cannot be written
+    let _ = put_read(&rt, &text[..got], &mut nodes, &mut commands);
 }

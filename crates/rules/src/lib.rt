@@ -15,16 +15,12 @@ ghost use Rattle.normalize.specs.Lists.{Room as Lines};
 ghost use Rattle.matching.specs.Places.{max_entries, max_place, placed};
 ghost use Rattle.sums.specs.Lists.{Fine, Bounded, max_total, max_added};
 ghost use Rattle.sums.specs.Places.{slotted, left_at, right_at, conclusion_at, Listed, Keyed, Rooms};
-ghost use Rattle.rules.specs.Checked.{first_number, TwoAt, ThreeAt, CappedCheck, map_of, ByIs, AgreesIs, AllAgree, CheckIs, times_terms, over_terms, Anything, Positive, ScaledIs, CappedIs, Nonnegative, CoefficientIs, EntryIs, FaceIs, CoefficientsAre, ZerosFace, SumsAgree, AddedAt};
+ghost use Rattle.rules.specs.Checked.{TwoAt, ThreeAt, CappedCheck, map_of, ByIs, AgreesIs, AllAgree, CheckIs, times_terms, over_terms, Anything, Positive, ScaledIs, CappedIs, Nonnegative, CoefficientIs, EntryIs, FaceIs, CoefficientsAre, ZerosFace, SumsAgree, AddedAt};
 ghost use Rattle.links.specs.Steps.{Step, RuleIs};
 
-use links::{Both, One, clause_of, one_premise, two_premises};
-use matching::{
-    Answer, COEFFICIENT_DIFFERS, CONSTANTS_DIFFER, Constant, DIV_OR_MOD_BY_ZERO,
-    EXPECTED_ANY_INTEGER, EXPECTED_NONNEG_INTEGER, LITERAL_MISSING, NEGATIVE_IN_SATURATION,
-    WRONG_LENGTH_OF_CLAUSE, WRONG_NUMBER_OF_ARGS, WRONG_NUMBER_OF_PREMISES,
-};
-use sums::{CONCLUSION, LEFT, RIGHT};
+use links::{clause_of, one_premise, two_premises};
+use matching::{Answer, Refusal};
+use sums::{CONCLUSION, Inequality, LEFT, RIGHT};
 
 // ---- tests
 // Whether two integers are the same.
@@ -35,23 +31,6 @@ fn same_integer(a: i64, b: i64) -> bool
 }
 
 // ---- inequalities
-// The first number that is not 0.
-fn first_number(a: u8, b: u8) -> u8
-    ensures { result ≡ first_number a b }
-{
-    if a == 0 { b } else { a }
-}
-
-// Two inequalities: document 01's number of the first that was not read, 0 where both were; their constants and the counts of their entries.
-#[derive(Drop)]
-pub struct Two {
-    pub number: u8,
-    pub constant: i64,
-    pub count: usize,
-    pub constant2: i64,
-    pub count2: usize,
-}
-
 // The inequalities of a premise and of a conclusion.
 fn unwrap_two(
     nodes: &[u32],
@@ -60,32 +39,24 @@ fn unwrap_two(
     coeffs: &mut [i64],
     keys: &mut [u32],
     slots: &mut [u16],
-) -> Two
+) -> Result<(Inequality, Inequality), Refusal>
     requires node { Node nodes.now clause × Node nodes.now conclusion }
     requires rooms { Rooms nodes.now coeffs.old keys.old slots.old }
     ensures { TwoAt nodes.now clause conclusion coeffs.new keys.new slots.new result }
 {
     // Unwrap the premise inequality
-    let p = sums::unwrap_pseudoboolean_inequality(nodes, clause, coeffs, keys, slots, LEFT);
+    let p = sums::unwrap_pseudoboolean_inequality(nodes, clause, coeffs, keys, slots, LEFT)?;
 
     // Unwrap the conclusion inequality
     let c = sums::unwrap_pseudoboolean_inequality(
         nodes, conclusion, coeffs, keys, slots, CONCLUSION,
-    );
-    Two {
-        number: first_number(p.number, c.number),
-        constant: p.constant,
-        count: p.count,
-        constant2: c.constant,
-        count2: c.count,
-    }
+    )?;
+    Ok((p, c))
 }
 
-// Three inequalities: document 01's number of the first that was not read, 0 where all were; the sum of the premises' constants, the conclusion's, and the
-// counts of their entries.
-#[derive(Drop)]
+// Three inequalities: the sum of the premises' constants, the conclusion's, and the counts of their entries.
+#[derive(Clone, Copy)]
 pub struct Three {
-    pub number: u8,
     pub total: i64,
     pub count: usize,
     pub count2: usize,
@@ -102,29 +73,27 @@ fn unwrap_three(
     coeffs: &mut [i64],
     keys: &mut [u32],
     slots: &mut [u16],
-) -> Three
+) -> Result<Three, Refusal>
     requires node { Node nodes.now left × Node nodes.now right × Node nodes.now conclusion }
     requires rooms { Rooms nodes.now coeffs.old keys.old slots.old }
     ensures { ThreeAt nodes.now left right conclusion coeffs.new keys.new slots.new result }
 {
     // Unwrap the premise inequality
-    let l = sums::unwrap_pseudoboolean_inequality(nodes, left, coeffs, keys, slots, LEFT);
-    let r = sums::unwrap_pseudoboolean_inequality(nodes, right, coeffs, keys, slots, RIGHT);
+    let l = sums::unwrap_pseudoboolean_inequality(nodes, left, coeffs, keys, slots, LEFT)?;
+    let r = sums::unwrap_pseudoboolean_inequality(nodes, right, coeffs, keys, slots, RIGHT)?;
 
     // Unwrap the conclusion inequality
     let c = sums::unwrap_pseudoboolean_inequality(
         nodes, conclusion, coeffs, keys, slots, CONCLUSION,
-    );
-    let number = first_number(l.number, first_number(r.number, c.number));
+    )?;
     let total = integer::add(l.constant, r.constant);
-    Three {
-        number,
+    Ok(Three {
         total,
         count: l.count,
         count2: r.count,
         constant: c.constant,
         count3: c.count,
-    }
+    })
 }
 
 // ---- cp_addition
@@ -248,27 +217,23 @@ fn sums_agree(
     requires keyed_2 { Keyed nodes.now conclusion_at keys.now slots.now three.count3 × (conclusion_at + three.count3 ≤ length coeffs.now) }
     ensures { SumsAgree nodes.now three slack (placed right_at coeffs.now) (placed left_at keys.now) n (placed conclusion_at coeffs.now) (placed conclusion_at keys.now) names result }
 {
-    // an inequality that was not read
-    if three.number != 0 {
-        return Answer::Refused(three.number);
-    }
     let m = three.count3;
 
     // Verify constants match (with slack)
     if !same_integer(three.total, integer::add(three.constant, slack)) {
-        return Answer::Refused(CONSTANTS_DIFFER);
+        return Err(Refusal::ConstantsDiffer);
     }
 
     // Verify premise and conclusion share same keys
     if !sums::assert_pbsum_same_keys(nodes, coeffs, keys, slots, RIGHT, LEFT, n, CONCLUSION, m) {
-        return Answer::Refused(LITERAL_MISSING);
+        return Err(Refusal::LiteralMissing);
     }
 
     // Verify pseudo-boolean sums match
     if !coefficients_are(nodes, coeffs, keys, slots, n, m) {
-        return Answer::Refused(COEFFICIENT_DIFFERS);
+        return Err(Refusal::CoefficientDiffers);
     }
-    Answer::Accepted(matching::both(names, zeros_face_zeros(nodes, coeffs, keys, slots, n, m)))
+    Ok(matching::both(names, zeros_face_zeros(nodes, coeffs, keys, slots, n, m)))
 }
 
 // Two sums, added and reduced, against the conclusion's: they are added where the first stands, and the reduced coefficients go where the second's stood.
@@ -300,7 +265,7 @@ fn added(
 
     // Apply reduction to cancel out opposite coefficients
     let slack = sums::reduce_pbsum(nodes, coeffs, keys, slots, LEFT, both, RIGHT);
-    sums_agree(nodes, three, slack.slack, coeffs, keys, slots, both, names)
+    sums_agree(nodes, three, slack, coeffs, keys, slots, both, names)
 }
 
 // The sum of two inequalities.
@@ -319,13 +284,9 @@ pub fn cp_addition(
     requires rooms { Rooms nodes.now coeffs.old keys.old slots.old }
     ensures { RuleIs cp_addition nodes.now commands.now premises.now args.now conclusion.now result }
 {
-    match two_premises(nodes, commands, premises, args, conclusion) {
-        Both::Refused(number) => Answer::Refused(number),
-        Both::Of(left, right, conclusion) => {
-            let three = unwrap_three(nodes, left, right, conclusion, coeffs, keys, slots);
-            added(nodes, three, coeffs, keys, slots)
-        }
-    }
+    let (left, right, conclusion) = two_premises(nodes, commands, premises, args, conclusion)?;
+    let three = unwrap_three(nodes, left, right, conclusion, coeffs, keys, slots)?;
+    added(nodes, three, coeffs, keys, slots)
 }
 
 // ---- multiplication, division, saturation: one check over a map of numbers
@@ -395,78 +356,70 @@ fn coefficients_agree(
     true
 }
 
-// The conclusion against the premise, both read or not: constants 29, keys 30, coefficients 31.
-fn by_check(nodes: &[u32], by: By, two: Two, coeffs: &[i64], keys: &[u32], slots: &[u16]) -> Answer
-    requires by_is { ByIs by × Within max_numeral two.constant × Within max_numeral two.constant2 }
-    requires keyed { Keyed nodes.now left_at keys.now slots.now two.count × (left_at + two.count ≤ length coeffs.now) × Bounded max_total (placed left_at coeffs.now) two.count }
-    requires keyed_2 { Keyed nodes.now conclusion_at keys.now slots.now two.count2 × (conclusion_at + two.count2 ≤ length coeffs.now) }
-    ensures { CheckIs nodes.now (map_of by) two (placed left_at coeffs.now) (placed left_at keys.now) (placed conclusion_at coeffs.now) (placed conclusion_at keys.now) result }
+// The conclusion against the premise: constants 29, keys 30, coefficients 31.
+fn by_check(
+    nodes: &[u32],
+    by: By,
+    premise: Inequality,
+    conclusion: Inequality,
+    coeffs: &[i64],
+    keys: &[u32],
+    slots: &[u16],
+) -> Answer
+    requires by_is { ByIs by × Within max_numeral premise.constant × Within max_numeral conclusion.constant }
+    requires keyed { Keyed nodes.now left_at keys.now slots.now premise.count × (left_at + premise.count ≤ length coeffs.now) × Bounded max_total (placed left_at coeffs.now) premise.count }
+    requires keyed_2 { Keyed nodes.now conclusion_at keys.now slots.now conclusion.count × (conclusion_at + conclusion.count ≤ length coeffs.now) }
+    ensures { CheckIs nodes.now (map_of by) premise conclusion (placed left_at coeffs.now) (placed left_at keys.now) (placed conclusion_at coeffs.now) (placed conclusion_at keys.now) result }
 {
-    // an inequality that was not read
-    if two.number != 0 {
-        return Answer::Refused(two.number);
-    }
-    let n = two.count;
-    let m = two.count2;
+    let n = premise.count;
+    let m = conclusion.count;
 
     // Verify constants match
-    if !same_integer(apply(by, two.constant), two.constant2) {
-        return Answer::Refused(CONSTANTS_DIFFER);
+    if !same_integer(apply(by, premise.constant), conclusion.constant) {
+        return Err(Refusal::ConstantsDiffer);
     }
 
     // Verify premise and conclusion share same keys
     if !sums::assert_pbsum_same_keys(nodes, coeffs, keys, slots, LEFT, LEFT, n, CONCLUSION, m) {
-        return Answer::Refused(LITERAL_MISSING);
+        return Err(Refusal::LiteralMissing);
     }
 
     // Verify pseudo-boolean sums match
     if !coefficients_agree(nodes, by, coeffs, keys, slots, n, m) {
-        return Answer::Refused(COEFFICIENT_DIFFERS);
+        return Err(Refusal::CoefficientDiffers);
     }
-    Answer::Accepted(matching::both(
+    Ok(matching::both(
         matching::all_names(nodes, keys, LEFT, n),
         matching::all_names(nodes, keys, CONCLUSION, m),
     ))
 }
 
 // ---- cp_multiplication, cp_division
-// The premise's term, the number and the conclusion's term, or the number of what is missing.
-#[derive(Drop)]
-pub enum Scaled {
-    Of(u32, i64, u32),
-    Refused(u8),
-}
-
-// One premise, one argument that is a number from 0 on, one conclusion.
+// The premise's term, the number and the conclusion's term: one premise, one argument that is a number from 0 on, one conclusion.
 fn scalar_of(
     nodes: &[u32],
     commands: &[u16],
     premises: &[u32],
     args: &[u32],
     conclusion: &[u32],
-) -> Scaled
+) -> Result<(u32, i64, u32), Refusal>
     requires step { Step nodes.now commands.now premises.now args.now }
     requires all_nodes { AllNodes nodes.now conclusion.now }
     ensures { ScaledIs cp_multiplication times_terms Anything nodes.now commands.now premises.now args.now conclusion.now result }
 {
-    match one_premise(nodes, commands, premises, args) {
-        One::Refused(number) => Scaled::Refused(number),
-        One::Of(clause, arg) => match matching::as_constant(nodes, arg) {
-            Constant::Not => Scaled::Refused(EXPECTED_ANY_INTEGER),
-            Constant::Is(scalar) => {
-                // Multiplying by a negative scalar would flip the inequality
-                if integer::less(scalar, 0) {
-                    return Scaled::Refused(EXPECTED_NONNEG_INTEGER);
-                }
+    let (clause, arg) = one_premise(nodes, commands, premises, args)?;
+    let scalar = matching::as_constant(nodes, arg).ok_or(Refusal::ExpectedAnyInteger)?;
 
-                // Check there is exactly one conclusion
-                if conclusion.len() != 1 {
-                    return Scaled::Refused(WRONG_LENGTH_OF_CLAUSE);
-                }
-                Scaled::Of(clause, scalar, conclusion[0])
-            }
-        },
+    // Multiplying by a negative scalar would flip the inequality
+    if integer::less(scalar, 0) {
+        return Err(Refusal::ExpectedNonnegInteger);
     }
+
+    // Check there is exactly one conclusion
+    if conclusion.len() != 1 {
+        return Err(Refusal::WrongLengthOfClause);
+    }
+    Ok((clause, scalar, conclusion[0]))
 }
 
 // An inequality times a number.
@@ -485,48 +438,47 @@ pub fn cp_multiplication(
     requires rooms { Rooms nodes.now coeffs.old keys.old slots.old }
     ensures { RuleIs cp_multiplication nodes.now commands.now premises.now args.now conclusion.now result }
 {
-    match scalar_of(nodes, commands, premises, args, conclusion) {
-        Scaled::Refused(number) => Answer::Refused(number),
-        Scaled::Of(clause, scalar, conclusion) => {
-            let two = unwrap_two(nodes, clause, conclusion, coeffs, keys, slots);
-            by_check(nodes, By::Times(scalar), two, coeffs, keys, slots)
-        }
-    }
+    let (clause, scalar, conclusion) = scalar_of(nodes, commands, premises, args, conclusion)?;
+    let (premise, conclusion) = unwrap_two(nodes, clause, conclusion, coeffs, keys, slots)?;
+    by_check(
+        nodes,
+        By::Times(scalar),
+        premise,
+        conclusion,
+        coeffs,
+        keys,
+        slots,
+    )
 }
 
-// One premise, one argument that is a number from 1 on, one conclusion.
+// The premise's term, the number and the conclusion's term: one premise, one argument that is a number from 1 on, one conclusion.
 fn divisor_of(
     nodes: &[u32],
     commands: &[u16],
     premises: &[u32],
     args: &[u32],
     conclusion: &[u32],
-) -> Scaled
+) -> Result<(u32, i64, u32), Refusal>
     requires step { Step nodes.now commands.now premises.now args.now }
     requires all_nodes { AllNodes nodes.now conclusion.now }
     ensures { ScaledIs cp_division over_terms Positive nodes.now commands.now premises.now args.now conclusion.now result }
 {
-    match one_premise(nodes, commands, premises, args) {
-        One::Refused(number) => Scaled::Refused(number),
-        One::Of(clause, arg) => match matching::as_constant(nodes, arg) {
-            Constant::Not => Scaled::Refused(EXPECTED_ANY_INTEGER),
-            Constant::Is(divisor) => {
-                // Rule only allows for positive integer arguments
-                if integer::less(divisor, 0) {
-                    return Scaled::Refused(EXPECTED_NONNEG_INTEGER);
-                }
-                if integer::is_zero(divisor) {
-                    return Scaled::Refused(DIV_OR_MOD_BY_ZERO);
-                }
+    let (clause, arg) = one_premise(nodes, commands, premises, args)?;
+    let divisor = matching::as_constant(nodes, arg).ok_or(Refusal::ExpectedAnyInteger)?;
 
-                // Check there is exactly one conclusion
-                if conclusion.len() != 1 {
-                    return Scaled::Refused(WRONG_LENGTH_OF_CLAUSE);
-                }
-                Scaled::Of(clause, divisor, conclusion[0])
-            }
-        },
+    // Rule only allows for positive integer arguments
+    if integer::less(divisor, 0) {
+        return Err(Refusal::ExpectedNonnegInteger);
     }
+    if integer::is_zero(divisor) {
+        return Err(Refusal::DivOrModByZero);
+    }
+
+    // Check there is exactly one conclusion
+    if conclusion.len() != 1 {
+        return Err(Refusal::WrongLengthOfClause);
+    }
+    Ok((clause, divisor, conclusion[0]))
 }
 
 // An inequality divided by a number, rounded up.
@@ -545,51 +497,48 @@ pub fn cp_division(
     requires rooms { Rooms nodes.now coeffs.old keys.old slots.old }
     ensures { RuleIs cp_division nodes.now commands.now premises.now args.now conclusion.now result }
 {
-    match divisor_of(nodes, commands, premises, args, conclusion) {
-        Scaled::Refused(number) => Answer::Refused(number),
-        Scaled::Of(clause, divisor, conclusion) => {
-            let two = unwrap_two(nodes, clause, conclusion, coeffs, keys, slots);
-            by_check(nodes, By::Over(divisor), two, coeffs, keys, slots)
-        }
-    }
+    let (clause, divisor, conclusion) = divisor_of(nodes, commands, premises, args, conclusion)?;
+    let (premise, conclusion) = unwrap_two(nodes, clause, conclusion, coeffs, keys, slots)?;
+    by_check(
+        nodes,
+        By::Over(divisor),
+        premise,
+        conclusion,
+        coeffs,
+        keys,
+        slots,
+    )
 }
 
 // ---- cp_saturation
-// The premise's term and the conclusion's term, or the number of what is missing.
-#[derive(Drop)]
-pub enum Capped {
-    Of(u32, u32),
-    Refused(u8),
-}
-
-// One premise, no argument, one conclusion.
+// The premise's term and the conclusion's term: one premise, no argument, one conclusion.
 fn capped_terms(
     nodes: &[u32],
     commands: &[u16],
     premises: &[u32],
     args: &[u32],
     conclusion: &[u32],
-) -> Capped
+) -> Result<(u32, u32), Refusal>
     requires step { Step nodes.now commands.now premises.now args.now }
     requires all_nodes { AllNodes nodes.now conclusion.now }
     ensures { CappedIs nodes.now commands.now premises.now args.now conclusion.now result }
 {
     if premises.len() != 1 {
-        return Capped::Refused(WRONG_NUMBER_OF_PREMISES);
+        return Err(Refusal::WrongNumberOfPremises);
     }
     if args.len() != 0 {
-        return Capped::Refused(WRONG_NUMBER_OF_ARGS);
+        return Err(Refusal::WrongNumberOfArgs);
     }
     let clause = clause_of(nodes, commands, premises[0]);
     if clause.len() != 1 {
-        return Capped::Refused(WRONG_LENGTH_OF_CLAUSE);
+        return Err(Refusal::WrongLengthOfClause);
     }
 
     // Check there is exactly one conclusion
     if conclusion.len() != 1 {
-        return Capped::Refused(WRONG_LENGTH_OF_CLAUSE);
+        return Err(Refusal::WrongLengthOfClause);
     }
-    Capped::Of(clause[0], conclusion[0])
+    Ok((clause[0], conclusion[0]))
 }
 
 // Whether each of the n coefficients at a place is at least 0.
@@ -606,25 +555,35 @@ pub fn nonnegative(coeffs: &[i64], at: usize, n: usize) -> bool
 }
 
 // Saturation's own checks, 32, then the check with the smaller of coefficient and constant.
-fn capped_check(nodes: &[u32], two: Two, coeffs: &[i64], keys: &[u32], slots: &[u16]) -> Answer
-    requires within { Within max_numeral two.constant × Within max_numeral two.constant2 }
-    requires keyed { Keyed nodes.now left_at keys.now slots.now two.count × (left_at + two.count ≤ length coeffs.now) × Bounded max_total (placed left_at coeffs.now) two.count }
-    requires keyed_2 { Keyed nodes.now conclusion_at keys.now slots.now two.count2 × (conclusion_at + two.count2 ≤ length coeffs.now) }
-    ensures { CappedCheck nodes.now two (placed left_at coeffs.now) (placed left_at keys.now) (placed conclusion_at coeffs.now) (placed conclusion_at keys.now) result }
+fn capped_check(
+    nodes: &[u32],
+    premise: Inequality,
+    conclusion: Inequality,
+    coeffs: &[i64],
+    keys: &[u32],
+    slots: &[u16],
+) -> Answer
+    requires within { Within max_numeral premise.constant × Within max_numeral conclusion.constant }
+    requires keyed { Keyed nodes.now left_at keys.now slots.now premise.count × (left_at + premise.count ≤ length coeffs.now) × Bounded max_total (placed left_at coeffs.now) premise.count }
+    requires keyed_2 { Keyed nodes.now conclusion_at keys.now slots.now conclusion.count × (conclusion_at + conclusion.count ≤ length coeffs.now) }
+    ensures { CappedCheck nodes.now premise conclusion (placed left_at coeffs.now) (placed left_at keys.now) (placed conclusion_at coeffs.now) (placed conclusion_at keys.now) result }
 {
-    // an inequality that was not read
-    if two.number != 0 {
-        return Answer::Refused(two.number);
-    }
-
     // Saturation is only sound if the constant and all coefficients are non-negative
-    if integer::less(two.constant, 0) {
-        return Answer::Refused(NEGATIVE_IN_SATURATION);
+    if integer::less(premise.constant, 0) {
+        return Err(Refusal::NegativeInSaturation);
     }
-    if !nonnegative(coeffs, LEFT, two.count) {
-        return Answer::Refused(NEGATIVE_IN_SATURATION);
+    if !nonnegative(coeffs, LEFT, premise.count) {
+        return Err(Refusal::NegativeInSaturation);
     }
-    by_check(nodes, By::Cap(two.constant), two, coeffs, keys, slots)
+    by_check(
+        nodes,
+        By::Cap(premise.constant),
+        premise,
+        conclusion,
+        coeffs,
+        keys,
+        slots,
+    )
 }
 
 // An inequality with its coefficients capped by its constant.
@@ -643,13 +602,9 @@ pub fn cp_saturation(
     requires rooms { Rooms nodes.now coeffs.old keys.old slots.old }
     ensures { RuleIs cp_saturation nodes.now commands.now premises.now args.now conclusion.now result }
 {
-    match capped_terms(nodes, commands, premises, args, conclusion) {
-        Capped::Refused(number) => Answer::Refused(number),
-        Capped::Of(clause, conclusion) => {
-            let two = unwrap_two(nodes, clause, conclusion, coeffs, keys, slots);
-            capped_check(nodes, two, coeffs, keys, slots)
-        }
-    }
+    let (clause, conclusion) = capped_terms(nodes, commands, premises, args, conclusion)?;
+    let (premise, conclusion) = unwrap_two(nodes, clause, conclusion, coeffs, keys, slots)?;
+    capped_check(nodes, premise, conclusion, coeffs, keys, slots)
 }
 
 // ---- cp_normalize
@@ -668,7 +623,7 @@ pub fn cp_normalize(
     ensures { RuleIs cp_normalize nodes.now commands.now premises.now args.now conclusion.now result }
 {
     if conclusion.len() != 1 {
-        return Answer::Refused(WRONG_LENGTH_OF_CLAUSE);
+        return Err(Refusal::WrongLengthOfClause);
     }
     normalize::normalized(nodes, conclusion[0], coeffs, keys)
 }

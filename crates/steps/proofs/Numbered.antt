@@ -4,6 +4,7 @@ use mathlib.Core.Bool.{Bool}
 use mathlib.Core.List.{List}
 use Prim.Native.Nat.{ℕ, zero, suc, ◌≤◌}
 use native.Mathlib.Omega.{arith}
+use Rattle.std.specs.Prelude.{Result}
 use Rattle.calculus.specs.Links.{cp_part, cp_transfer}
 use Rattle.calculus.specs.Marks.{apply_rule}
 use Rattle.calculus.specs.Normalize.{cp_normalize}
@@ -11,7 +12,7 @@ use Rattle.calculus.specs.Rules.{cp_addition, cp_multiplication, cp_division, cp
 use Rattle.calculus.specs.Terms.{Term}
 use Rattle.calculus.specs.Words.{Res}
 use Rattle.heads.specs.Heads.{rule_named}
-use Rattle.matching.specs.declared.Answer.{Answer}
+use Rattle.matching.specs.declared.Refusal.{Refusal}
 use Rattle.links.specs.Steps.{RuleIs}
 use Rattle.steps.specs.Answers.{addition_number, multiplication_number, division_number, saturation_number, literal_number, normalize_number, transfer_number, part_number, NumberIs}
 
@@ -54,7 +55,7 @@ part-rule (suc (suc (suc (suc (suc zero))))) h = absurd (omega arith)
 part-rule (suc (suc (suc (suc (suc (suc zero)))))) h = absurd (omega arith)
 part-rule (suc (suc (suc (suc (suc (suc (suc n))))))) h = refl
 
-module _ (t w ps xs cs : List ℕ) (r : Answer) where
+module _ (t w ps xs cs : List ℕ) (r : Result Bool Refusal) where
   by : (rule : List (List Term) → List Term → List Term → Res Bool) (m k : ℕ) → m ≡ k → rule ≡ apply_rule (rule_named k) → RuleIs rule t w ps xs cs r → NumberIs m t w ps xs cs r
   by rule m k e f q = subst (λ (n : ℕ). NumberIs n t w ps xs cs r) (sym e) (subst (λ (f : List (List Term) → List Term → List Term → Res Bool). RuleIs f t w ps xs cs r) f q)
 

@@ -1,14 +1,16 @@
 -- What a rule is given of a step follows from what the reader publishes of its command and of those above it.
 use mathlib.Core.Path.{◌≡◌, sym, subst}
+use mathlib.Core.Bool.{Bool}
 use mathlib.Core.List.{List}
 use Prim.Native.Nat.{ℕ, ◌+◌, ◌-◌, ◌≤◌, ◌<◌}
 use native.Mathlib.Omega.{arith}
 use lib.IntN.{ℤ}
 use lib.ListN.{length, get_or}
+use Rattle.std.specs.Prelude.{Result}
 use Rattle.calculus.specs.Limits.{max_commands}
 use Rattle.nodes.specs.Nodes.{Below, Table, Firsts}
 use Rattle.nodes.proofs.Tables.{below_at}
-use Rattle.matching.specs.declared.Answer.{Answer}
+use Rattle.matching.specs.declared.Refusal.{Refusal}
 use Rattle.matching.specs.Matched.{AllNodes}
 use Rattle.normalize.specs.Lists.{Room as Lines}
 use Rattle.reader.specs.Commands.{all_words, word_at, kind_word, clause_word, premises_word, arguments_word, part_at}
@@ -78,7 +80,7 @@ pub lines-in : {t : List ℕ} {cs : List ℤ} {ks sl : List ℕ} → Rooms t cs 
 lines-in r = record { coeffs = omega (arith, r.coefficients); keys = omega (arith, r.keys) }
 
 -- ---- the answer over the parts is the step's
-pub step_is : (t w : List ℕ) (k number : ℕ) (ps xs cs : List ℕ) (r : Answer) → ps ≡ part_at t w k premises_word → xs ≡ part_at t w k arguments_word → cs ≡ part_at t w k clause_word → number ≡ word_at w k kind_word → NumberIs (number - 1) t w ps xs cs r → StepIs t w k r
+pub step_is : (t w : List ℕ) (k number : ℕ) (ps xs cs : List ℕ) (r : Result Bool Refusal) → ps ≡ part_at t w k premises_word → xs ≡ part_at t w k arguments_word → cs ≡ part_at t w k clause_word → number ≡ word_at w k kind_word → NumberIs (number - 1) t w ps xs cs r → StepIs t w k r
 step_is t w k number ps xs cs r e f h i q =
     subst (λ (n : ℕ). NumberIs (n - 1) t w (part_at t w k premises_word) (part_at t w k arguments_word) (part_at t w k clause_word) r) i
     (subst (λ (c : List ℕ). NumberIs (number - 1) t w (part_at t w k premises_word) (part_at t w k arguments_word) c r) h

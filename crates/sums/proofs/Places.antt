@@ -5,12 +5,11 @@ use Prim.Native.Nat.{ℕ, zero, suc, ◌+◌, ◌≤◌, ◌<◌}
 use native.Mathlib.Omega.{arith}
 use lib.IntN.{ℤ, pos}
 use lib.ListN.{length, get_or, set, length-set}
-use Rattle.matching.specs.Entries.{Literals}
 use Rattle.matching.specs.Matched.{variable_of, Variable}
-use Rattle.matching.specs.Places.{max_entries, max_place, placed, Put1, Apart, Others}
+use Rattle.matching.specs.Places.{max_entries, placed, Put1, Apart, Others}
 use Rattle.matching.proofs.Places.{part-get, part-other, part-put, others-none, others-set, others-then}
 use Rattle.sums.specs.Lists.{Fine}
-use Rattle.sums.specs.Places.{key_room, slots_of, slotted, Aside, Slotted, Room, Listed, Keyed, left_at, right_at, conclusion_at, Rooms, Elsewhere}
+use Rattle.sums.specs.Places.{key_room, slots_of, slotted, Aside, Slotted, Room, Keyed, left_at, right_at, conclusion_at, Rooms, Elsewhere}
 use Rattle.sums.specs.Found.{AppendedAt, InequalityIs}
 
 -- ---- slots
@@ -111,11 +110,11 @@ module _ {at : ℕ} {cs ds : List ℤ} {ks ls sl tl : List ℕ} (E : Elsewhere a
   pub fine-still : {t : List ℕ} {n : ℕ} (b : ℕ) → Apart at b → Aside at b → Fine t (placed b ks) (slotted b sl) n → Fine t (placed b ls) (slotted b tl) n
   fine-still {t} {n} b f g F = sum-still (λ us vs ws. Fine t vs ws n) b f g F
 
-  pub inequality-still : {t : List ℕ} {i m n : ℕ} {k : ℤ} (b : ℕ) → Apart at b → Aside at b → InequalityIs t i m k (placed b cs) (placed b ks) (slotted b sl) n → InequalityIs t i m k (placed b ds) (placed b ls) (slotted b tl) n
-  inequality-still {t} {i} {m} {n} {k} b f g I = sum-still (λ us vs ws. InequalityIs t i m k us vs ws n) b f g I
+  pub inequality-still : {t : List ℕ} {i n : ℕ} {k : ℤ} (b : ℕ) → Apart at b → Aside at b → InequalityIs t i k (placed b cs) (placed b ks) (slotted b sl) n → InequalityIs t i k (placed b ds) (placed b ls) (slotted b tl) n
+  inequality-still {t} {i} {n} {k} b f g I = sum-still (λ us vs ws. InequalityIs t i k us vs ws n) b f g I
 
   -- whose slots may have been written since
-  pub inequality-past : {t past : List ℕ} {i m n : ℕ} {k : ℤ} (b : ℕ) → Apart at b → InequalityIs t i m k (placed b cs) (placed b ks) past n → InequalityIs t i m k (placed b ds) (placed b ls) past n
+  pub inequality-past : {t past : List ℕ} {i n : ℕ} {k : ℤ} (b : ℕ) → Apart at b → InequalityIs t i k (placed b cs) (placed b ks) past n → InequalityIs t i k (placed b ds) (placed b ls) past n
   inequality-past b f I = rw (E.coefficients.there b f, E.keys.there b f) I
 
   pub rooms-still : {t : List ℕ} → Rooms t cs ks sl → Rooms t ds ls tl
@@ -131,10 +130,3 @@ module _ {t : List ℕ} {cs : List ℤ} {ks sl : List ℕ} (R : Rooms t cs ks sl
 
   pub long-enough : (n : ℕ) → n ≤ max_entries → at + n ≤ length cs
   long-enough n l = omega (arith, R.coefficients)
-
-  pub listed_at : {n : ℕ} → n ≤ max_entries → Literals t (placed at ks) n → Listed t at at cs ks n
-  listed_at l L = record { near = omega arith; few = omega arith; most = l; coefficients = omega (arith, R.coefficients); keys = omega (arith, R.keys); literals = L }
-
--- what can be looked up can be read
-pub listed_of : {t : List ℕ} {from at : ℕ} {cs : List ℤ} {ks sl : List ℕ} {n : ℕ} → from ≤ max_place → Keyed t at ks sl n → from + n ≤ length cs → Listed t from at cs ks n
-listed_of f K h = record { near = f; few = K.few; most = K.fine.few; coefficients = h; keys = omega (arith, K.fine.few, K.keys); literals = K.fine.literals }

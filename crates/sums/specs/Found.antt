@@ -1,23 +1,19 @@
 -- What the functions over sums answer (01, section 2), over every text in which the names may lie. ..Is speaks of a sum's lists; AppendedAt, PutAt,
 -- ReadAt, InequalityAt and AddAt speak of the lent arrays before and after: the sum at its place is that, and everything elsewhere is as it was.
-use Rattle.std.specs.Prelude.{◌≡◌, Bool, List, [], ◌∷◌, map, ℕ, suc, ◌+◌, ◌*◌, ◌≤◌, ◌<◌, ℤ, pos, length, get_or}
+use Rattle.std.specs.Prelude.{◌≡◌, Bool, Option, Some, None, Result, Ok, Err, List, [], ◌∷◌, map, ℕ, suc, ◌+◌, ◌*◌, ◌≤◌, ◌<◌, ℤ, pos, length, get_or}
 use Rattle.integer.specs.Integers.{Within}
 use Rattle.calculus.specs.Entries.{Entry, entry}
 use Rattle.calculus.specs.Sums.{put, same_lit, summand, lone_constant, unwrap_inequality, keys_in, same_keys, add_sums, reduced_at, slack_at, reduce_sum, max_summands}
 use Rattle.calculus.specs.Terms.{listed}
 use Rattle.calculus.specs.Words.{Res, ok, bad, max_numeral}
 use Rattle.nodes.specs.Nodes.{decode, Below, Node}
-use Rattle.matching.specs.Matched.{Text, term, lit_at, variable_of, Variable}
+use Rattle.matching.specs.Matched.{refusal_number, Text, term, lit_at, variable_of, Variable}
 use Rattle.matching.specs.Entries.{entry_at, entries, Under}
 use Rattle.matching.specs.Places.{max_entries, placed, Put1}
-use Rattle.sums.specs.Lists.{index_of, OverName, OverNames, Bounded, Fine, max_total, max_added, res_of}
-use Rattle.matching.specs.declared.Constant.{Constant}
-use Rattle.matching.specs.declared.Constant.TheVariants as constants
+use Rattle.sums.specs.Lists.{index_of, OverName, OverNames, Bounded, Fine, max_total, max_added}
+use Rattle.matching.specs.declared.Refusal.{Refusal}
 use Rattle.sums.specs.Places.{slotted, Elsewhere}
 use Rattle.sums.specs.declared.Inequality.{Inequality}
-use Rattle.sums.specs.declared.Read.{Read}
-use Rattle.sums.specs.declared.Summand.{Summand}
-use Rattle.sums.specs.declared.Summand.TheVariants as kinds
 
 -- whether two keys are the same literal
 abbrev pub SameIs : List ℕ → ℕ → ℕ → Bool → Type 0
@@ -73,13 +69,9 @@ pub record SummandAt (t : List ℕ) (i k : ℕ) (c : ℤ) : Type 0 where
   pub before : variable_of k ≤ i
   pub within : Within max_numeral c
 
-pub record RefusedAt {A : Type 0} (f : List ℕ → Res A) (number : ℕ) : Type 0 where
-  pub is : (s : List ℕ) → f s ≡ bad number
-  pub some : 0 < number
-
-abbrev pub SummandIs : List ℕ → ℕ → Summand → Type 0
-SummandIs t i (kinds.Is k c) = SummandAt t i k c
-SummandIs t i (kinds.Refused number) = RefusedAt (λ (s : List ℕ). summand (decode s t i)) number
+abbrev pub SummandIs : List ℕ → ℕ → Result (ℕ × ℤ) Refusal → Type 0
+SummandIs t i (Ok (k, c)) = SummandAt t i k c
+SummandIs t i (Err e) = (s : List ℕ) → summand (decode s t i) ≡ bad (refusal_number e)
 
 -- each is a node before m
 pub record Nodes (t ts : List ℕ) (m : ℕ) : Type 0 where
@@ -87,31 +79,35 @@ pub record Nodes (t ts : List ℕ) (m : ℕ) : Type 0 where
   pub below : Below m ts
 
 -- the numeral of a list of one
-abbrev pub LoneIs : List ℕ → List ℕ → Constant → Type 0
-LoneIs t ts (constants.Is z) = (s : List ℕ) → lone_constant (listed (map (decode s t) ts)) ≡ ok z
-LoneIs t ts constants.Not = (s : List ℕ) → lone_constant (listed (map (decode s t) ts)) ≡ bad 0
+abbrev pub LoneIs : List ℕ → List ℕ → Option ℤ → Type 0
+LoneIs t ts (Some z) = (s : List ℕ) → lone_constant (listed (map (decode s t) ts)) ≡ ok z
+LoneIs t ts None = (s : List ℕ) → lone_constant (listed (map (decode s t) ts)) ≡ bad 0
 
--- the sum that was read, or the number; `want` is the definition's over a text
-pub record ReadIs (t : List ℕ) (m : ℕ) (want : List ℕ → Res (List Entry)) (number : ℕ) (cs : List ℤ) (ks sl : List ℕ) (n : ℕ) : Type 0 where
-  pub is : (x : Text t) → m ≤ x.n → want x.text ≡ res_of number (entries (term x) cs ks n)
+-- the sum that was read; `want` is the definition's over a text
+pub record ReadIs (t : List ℕ) (m : ℕ) (want : List ℕ → Res (List Entry)) (cs : List ℤ) (ks sl : List ℕ) (n : ℕ) : Type 0 where
+  pub is : (x : Text t) → m ≤ x.n → want x.text ≡ ok (entries (term x) cs ks n)
   pub fine : Fine t ks sl n
   pub few : n ≤ max_summands
   pub under : Under m ks n
   pub bounded : Bounded max_total cs n
 
-abbrev pub ReadAt : (t : List ℕ) (m : ℕ) (want : List ℕ → Res (List Entry)) (at : ℕ) (cs : List ℤ) (ks sl : List ℕ) (ds : List ℤ) (ls tl : List ℕ) → Read → Type 0
-ReadAt t m want at cs ks sl ds ls tl r = ReadIs t m want r.number (placed at ds) (placed at ls) (slotted at tl) r.count × Elsewhere at cs ks sl ds ls tl
+-- at a place of the lent arrays, or the number of what refuses it
+abbrev pub ReadAt : (t : List ℕ) (m : ℕ) (want : List ℕ → Res (List Entry)) (at : ℕ) (cs : List ℤ) (ks sl : List ℕ) (ds : List ℤ) (ls tl : List ℕ) → Result ℕ Refusal → Type 0
+ReadAt t m want at cs ks sl ds ls tl (Ok n) = ReadIs t m want (placed at ds) (placed at ls) (slotted at tl) n × Elsewhere at cs ks sl ds ls tl
+ReadAt t m want at cs ks sl ds ls tl (Err e) = ((x : Text t) → m ≤ x.n → want x.text ≡ bad (refusal_number e)) × Elsewhere at cs ks sl ds ls tl
 
-pub record InequalityIs (t : List ℕ) (i number : ℕ) (constant : ℤ) (cs : List ℤ) (ks sl : List ℕ) (n : ℕ) : Type 0 where
-  pub is : (x : Text t) → i < x.n → unwrap_inequality (term x i) ≡ res_of number (record { sum = entries (term x) cs ks n; const = constant })
+-- the inequality that was read, and where, or the number
+pub record InequalityIs (t : List ℕ) (i : ℕ) (constant : ℤ) (cs : List ℤ) (ks sl : List ℕ) (n : ℕ) : Type 0 where
+  pub is : (x : Text t) → i < x.n → unwrap_inequality (term x i) ≡ ok (record { sum = entries (term x) cs ks n; const = constant })
   pub fine : Fine t ks sl n
   pub few : n ≤ max_summands
   pub under : Under (suc i) ks n
   pub bounded : Bounded max_total cs n
   pub within : Within max_numeral constant
 
-abbrev pub InequalityAt : (t : List ℕ) (i at : ℕ) (cs : List ℤ) (ks sl : List ℕ) (ds : List ℤ) (ls tl : List ℕ) → Inequality → Type 0
-InequalityAt t i at cs ks sl ds ls tl r = InequalityIs t i r.number r.constant (placed at ds) (placed at ls) (slotted at tl) r.count × Elsewhere at cs ks sl ds ls tl
+abbrev pub InequalityAt : (t : List ℕ) (i at : ℕ) (cs : List ℤ) (ks sl : List ℕ) (ds : List ℤ) (ls tl : List ℕ) → Result Inequality Refusal → Type 0
+InequalityAt t i at cs ks sl ds ls tl (Ok r) = InequalityIs t i r.constant (placed at ds) (placed at ls) (slotted at tl) r.count × Elsewhere at cs ks sl ds ls tl
+InequalityAt t i at cs ks sl ds ls tl (Err e) = ((x : Text t) → i < x.n → unwrap_inequality (term x i) ≡ bad (refusal_number e)) × Elsewhere at cs ks sl ds ls tl
 
 -- ---- keys
 abbrev pub KeptIs : (t : List ℕ) → List ℤ → List ℕ → ℕ → List ℕ → ℕ → Bool → Type 0

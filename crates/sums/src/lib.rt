@@ -14,10 +14,7 @@ ghost use Rattle.sums.specs.Lists.{OverName, Fine, Bounded, max_total, max_added
 ghost use Rattle.sums.specs.Places.{key_room, slots_of, slotted, Room, Listed, Keyed};
 ghost use Rattle.sums.specs.Found.{SameIs, PlaceIs, FindIs, AppendedAt, FollowedAt, PutAt, SummandIs, Nodes, LoneIs, ReadAt, InequalityAt, KeptIs, SubsetIs, SameKeysIs, AddAt, CancelIs, ReduceIs};
 
-use matching::{
-    Constant, EXPECTED_ANY_INTEGER, GE, LONE_CONSTANT, MAX_SUMMANDS, MUL,
-    NEITHER_PLAIN_NOR_NEGATED, Pair, TERM_OF_WRONG_FORM, TOO_MANY_SUMMANDS,
-};
+use matching::{GE, MAX_SUMMANDS, MUL, Refusal};
 use nodes::NAME_KIND;
 
 // Where the sums of a rule stand: the first premise's, the second's, the conclusion's.
@@ -185,35 +182,17 @@ pub fn put(
 }
 
 // ---- reading
-// A summand: its key and its coefficient, or the number of what it lacks.
-#[derive(Drop)]
-pub enum Summand {
-    Is(u32, i64),
-    Refused(u8),
-}
-
-// Negated literal (* c (- 1 x)), plain literal (* c x).
-pub fn read_summand(nodes: &[u32], t: u32) -> Summand
+// The key and the coefficient of a summand: negated literal (* c (- 1 x)), plain literal (* c x).
+pub fn read_summand(nodes: &[u32], t: u32) -> Result<(u32, i64), Refusal>
     requires { Node nodes.now t }
     ensures { SummandIs nodes.now t result }
 {
-    match matching::binary(nodes, MUL, t) {
-        Pair::Not => Summand::Refused(NEITHER_PLAIN_NOR_NEGATED),
-        Pair::Of(c, v) => match matching::as_constant(nodes, c) {
-            Constant::Not => Summand::Refused(EXPECTED_ANY_INTEGER),
-            Constant::Is(z) => Summand::Is(matching::literal_key(nodes, v), z),
-        },
-    }
+    let (c, v) = matching::binary(nodes, MUL, t).ok_or(Refusal::NeitherPlainNorNegated)?;
+    let z = matching::as_constant(nodes, c).ok_or(Refusal::ExpectedAnyInteger)?;
+    Ok((matching::literal_key(nodes, v), z))
 }
 
-// What was read: document 01's number, 0 where there is a sum, and how many entries it has.
-#[derive(Drop)]
-pub struct Read {
-    pub number: u8,
-    pub count: usize,
-}
-
-// The sum of the summands ts, each a node before top.
+// The sum of the summands ts, each a node before top: how many entries it has.
 fn read_summands(
     nodes: &[u32],
     ts: &[u32],
@@ -222,37 +201,28 @@ fn read_summands(
     keys: &mut [u32],
     slots: &mut [u16],
     at: usize,
-) -> Read
+) -> Result<usize, Refusal>
     requires nodes { Nodes nodes.now ts.now top × (length ts.now ≤ max_summands) }
     requires room { Room nodes.now at coeffs.old keys.old slots.old }
     ensures { ReadAt nodes.now top (λ (s : List ℕ). summands (listed (map (decode s nodes.now) ts.now)) []) at coeffs.old keys.old slots.old coeffs.new keys.new slots.new result }
 {
-    let mut n: usize = 0;
+    let mut n = 0;
     for t in ts {
-        match read_summand(nodes, *t) {
-            Summand::Refused(number) => {
-                return Read { number, count: n };
-            }
-            Summand::Is(key, c) => {
-                n = put(nodes, coeffs, keys, slots, at, n, key, c);
-            }
-        }
+        let (key, c) = read_summand(nodes, *t)?;
+        n = put(nodes, coeffs, keys, slots, at, n, key, c);
     }
-    Read {
-        number: 0,
-        count: n,
-    }
+    Ok(n)
 }
 
 // The number of one summand alone, where it is a numeral.
-pub fn lone_constant(nodes: &[u32], ts: &[u32]) -> Constant
+pub fn lone_constant(nodes: &[u32], ts: &[u32]) -> Option<i64>
     requires { (i : ℕ) → i < length ts.now → Node nodes.now (get_or ts.now i 0) }
     ensures { LoneIs nodes.now ts.now result }
 {
     if ts.len() == 1 {
         matching::as_constant(nodes, ts[0])
     } else {
-        Constant::Not
+        None
     }
 }
 
@@ -264,7 +234,7 @@ pub fn get_pb_hashmap(
     keys: &mut [u32],
     slots: &mut [u16],
     at: usize,
-) -> Read
+) -> Result<usize, Refusal>
     requires node { Node nodes.now i }
     requires room { Room nodes.now at coeffs.old keys.old slots.old }
     ensures { ReadAt nodes.now (suc i) (λ (s : List ℕ). pb_sum (decode s nodes.now i)) at coeffs.old keys.old slots.old coeffs.new keys.new slots.new result }
@@ -272,36 +242,19 @@ pub fn get_pb_hashmap(
     let one = [i; 1];
     let pbsum = matching::split_summation(nodes, &one, i);
     if pbsum.len() > MAX_SUMMANDS {
-        return Read {
-            number: TOO_MANY_SUMMANDS,
-            count: 0,
-        };
+        return Err(Refusal::TooManySummands);
     }
-
-    // Special case: single 0
     match lone_constant(nodes, pbsum) {
-        Constant::Is(constant) => {
-            if integer::is_zero(constant) {
-                return Read {
-                    number: 0,
-                    count: 0,
-                };
-            }
-            Read {
-                number: LONE_CONSTANT,
-                count: 0,
-            }
-        }
-        Constant::Not => {
-            read_summands(nodes, pbsum, nodes::wide(i) + 1, coeffs, keys, slots, at)
-        }
+        // Special case: single 0
+        Some(constant) if integer::is_zero(constant) => Ok(0),
+        Some(_) => Err(Refusal::LoneConstant),
+        None => read_summands(nodes, pbsum, nodes::wide(i) + 1, coeffs, keys, slots, at),
     }
 }
 
-// An inequality: document 01's number, 0 where it was read, its constant, and how many entries its sum has.
-#[derive(Drop)]
+// An inequality: its constant, and how many entries its sum has.
+#[derive(Clone, Copy)]
 pub struct Inequality {
-    pub number: u8,
     pub constant: i64,
     pub count: usize,
 }
@@ -314,33 +267,15 @@ pub fn unwrap_pseudoboolean_inequality(
     keys: &mut [u32],
     slots: &mut [u16],
     at: usize,
-) -> Inequality
+) -> Result<Inequality, Refusal>
     requires node { Node nodes.now i }
     requires room { Room nodes.now at coeffs.old keys.old slots.old }
     ensures { InequalityAt nodes.now i at coeffs.old keys.old slots.old coeffs.new keys.new slots.new result }
 {
-    match matching::binary(nodes, GE, i) {
-        Pair::Not => Inequality {
-            number: TERM_OF_WRONG_FORM,
-            constant: 0,
-            count: 0,
-        },
-        Pair::Of(pbsum, constant) => match matching::as_constant(nodes, constant) {
-            Constant::Not => Inequality {
-                number: EXPECTED_ANY_INTEGER,
-                constant: 0,
-                count: 0,
-            },
-            Constant::Is(z) => {
-                let read = get_pb_hashmap(nodes, pbsum, coeffs, keys, slots, at);
-                Inequality {
-                    number: read.number,
-                    constant: z,
-                    count: read.count,
-                }
-            }
-        },
-    }
+    let (pbsum, constant) = matching::binary(nodes, GE, i).ok_or(Refusal::TermOfWrongForm)?;
+    let constant = matching::as_constant(nodes, constant).ok_or(Refusal::ExpectedAnyInteger)?;
+    let count = get_pb_hashmap(nodes, pbsum, coeffs, keys, slots, at)?;
+    Ok(Inequality { constant, count })
 }
 
 // ---- keys of two sums
@@ -456,7 +391,7 @@ fn keep_of(a: i64, b: i64) -> i64
 }
 
 // What an entry keeps of its coefficient, and what it adds to the slack.
-#[derive(Drop)]
+#[derive(Clone, Copy)]
 pub struct Cancelled {
     pub kept: i64,
     pub slack: i64,
@@ -493,12 +428,6 @@ fn cancel(
     }
 }
 
-// How much the slack has grown.
-#[derive(Drop)]
-pub struct Slack {
-    pub slack: i64,
-}
-
 // Cancels out opposite coefficients: every new coefficient, to the place `into`, and the slack from the sum as it was.
 pub fn reduce_pbsum(
     nodes: &[u32],
@@ -508,18 +437,16 @@ pub fn reduce_pbsum(
     at: usize,
     n: usize,
     into: usize,
-) -> Slack
+) -> i64
     requires keyed { Keyed nodes.now at keys.now slots.now n × (at + n ≤ length coeffs.old) × Bounded max_added (placed at coeffs.old) n }
     requires max_entries_in_bounds { (into + max_entries ≤ length coeffs.old) × (into ≤ max_place) × Apart into at }
-    ensures { ReduceIs nodes.now (placed at coeffs.old) (placed at keys.now) n (placed into coeffs.new) result.slack × Others into coeffs.old coeffs.new }
+    ensures { ReduceIs nodes.now (placed at coeffs.old) (placed at keys.now) n (placed into coeffs.new) result × Others into coeffs.old coeffs.new }
 {
-    let mut total = Slack { slack: 0 };
+    let mut slack = 0;
     for i in 0..n {
         let one = cancel(nodes, coeffs, keys, slots, at, n, i);
-        let kept = one.kept;
-        let slack = integer::add(total.slack, one.slack);
-        coeffs[into + i] = kept;
-        total = Slack { slack };
+        coeffs[into + i] = one.kept;
+        slack = integer::add(slack, one.slack);
     }
-    total
+    slack
 }

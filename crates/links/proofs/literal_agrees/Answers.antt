@@ -2,41 +2,21 @@
 use mathlib.Core.Path.{◌∙◌, sym}
 use native.Mathlib.Omega.{arith}
 use Rattle.matching.proofs.Matches.{kept}
+use Rattle.links.proofs.Fronts.{refused}
 use Rattle.links.proofs.Literals.{literal-36, literal-term, literal-24, literal-34, literal_product}
 use Rattle.links.proofs.literal_agrees.Goals as goal
 
-pub binary-requires : goal.binary-requires
-binary-requires c = record {
-  node = (rw c.in-Of.is at c.side_of.ensures).inner.node;
-  op_lt_plus_kind = omega arith;
-}
+pub returns-in_err-s : goal.returns-in_err-s
+returns-in_err-s c = rw (refused _ c.from_residual.ensures.1 c.in_err-s.ensures.ok_part c.in_err-s.ensures.value) (λ x a t. literal-36 x _ _ (rw c.in_err-s.ensures.ok_part at c.side_of.ensures))
 
-pub same_as-requires : goal.same_as-requires
-same_as-requires c = record {
-  node = (rw c.in-Of.is at c.side_of.ensures).inner.node;
-  node_2 = c.requires.node;
-}
+pub returns-in_default : goal.returns-in_default
+returns-in_default c = λ x a t. let S = rw c.in_ok-s.ensures.ok_part at c.side_of.ensures in literal-term x _ _ S _ (rw c.in_default.is at c.binary.ensures) (c.same_as.ensures x (omega (arith, S.inner.before)) a)
 
-pub as_constant-requires : goal.as_constant-requires
-as_constant-requires c = (rw c.in-Of-binary.is at c.binary.ensures).left.node
+pub returns-in_err-z : goal.returns-in_err-z
+returns-in_err-z c = rw (refused _ c.from_residual-in_err-z.ensures.1 c.in_err-z.ensures.ok_part c.in_err-z.ensures.value) (λ x a t. literal-24 x _ _ (rw c.in_ok-s.ensures.ok_part at c.side_of.ensures) (rw c.in-Some.is at c.binary.ensures) (rw c.in_err-z.ensures.ok_part at c.as_constant.ensures))
 
-pub same_as-requires-then-equal : goal.same_as-requires-then-equal
-same_as-requires-then-equal c = record {
-  node = (rw c.in-Of-binary.is at c.binary.ensures).right.node;
-  node_2 = c.requires.node;
-}
+pub returns-then-not-equal : goal.returns-then-not-equal
+returns-then-not-equal c = λ x a t. let Z = rw c.in_ok-z.ensures.ok_part at c.as_constant.ensures in literal-34 x _ _ (rw c.in_ok-s.ensures.ok_part at c.side_of.ensures) (rw c.in-Some.is at c.binary.ensures) Z (λ e. c.equal.ensures.no c.if-not-equal.true (kept (omega arith) Z.within ∙ e))
 
-pub returns-in-Not : goal.returns-in-Not
-returns-in-Not c = λ x a t. literal-36 x _ _ (rw c.in-Not.is at c.side_of.ensures)
-
-pub returns-in-Not-binary : goal.returns-in-Not-binary
-returns-in-Not-binary c = λ x a t. literal-term x _ _ (rw c.in-Of.is at c.side_of.ensures) _ (rw c.in-Not-binary.is at c.binary.ensures) (c.same_as.ensures x (omega (arith, (rw c.in-Of.is at c.side_of.ensures).inner.before)) a)
-
-pub returns-in-Not-as_constant : goal.returns-in-Not-as_constant
-returns-in-Not-as_constant c = λ x a t. literal-24 x _ _ (rw c.in-Of.is at c.side_of.ensures) (rw c.in-Of-binary.is at c.binary.ensures) (rw c.in-Not-as_constant.is at c.as_constant.ensures)
-
-pub returns-then-equal : goal.returns-then-equal
-returns-then-equal c = λ x a t. literal_product x _ _ (rw c.in-Of.is at c.side_of.ensures) (rw c.in-Of-binary.is at c.binary.ensures) (rw c.in-Is.is at c.as_constant.ensures) _ (sym (kept (omega arith) (rw c.in-Is.is at c.as_constant.ensures).within) ∙ c.equal.ensures.yes c.if-equal.true) (c.same_as-then-equal.ensures x (omega (arith, (rw c.in-Of.is at c.side_of.ensures).inner.before, (rw c.in-Of-binary.is at c.binary.ensures).right.before)) a)
-
-pub returns-else-equal : goal.returns-else-equal
-returns-else-equal c = λ x a t. literal-34 x _ _ (rw c.in-Of.is at c.side_of.ensures) (rw c.in-Of-binary.is at c.binary.ensures) (rw c.in-Is.is at c.as_constant.ensures) (λ e. c.equal.ensures.no c.if-equal.false (kept (omega arith) (rw c.in-Is.is at c.as_constant.ensures).within ∙ e))
+pub returns : goal.returns
+returns c = λ x a t. let S = rw c.in_ok-s.ensures.ok_part at c.side_of.ensures in let B = rw c.in-Some.is at c.binary.ensures in let Z = rw c.in_ok-z.ensures.ok_part at c.as_constant.ensures in literal_product x _ _ S B Z _ (sym (kept (omega arith) Z.within) ∙ c.equal.ensures.yes c.if-not-equal.false) (c.same_as-2.ensures x (omega (arith, S.inner.before, B.right.before)) a)

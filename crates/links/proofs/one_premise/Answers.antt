@@ -6,9 +6,6 @@ use Rattle.links.proofs.one_premise.Goals as goal
 pub returns-then-premises-ne1 : goal.returns-then-premises-ne1
 returns-then-premises-ne1 c = one-premises c.args.nodes.now c.args.commands.now c.args.premises.now c.args.args.now (λ e. omega arith)
 
-pub clause_of-clause-requires : goal.clause_of-clause-requires
-clause_of-clause-requires c = c.requires.premises 0 (omega arith)
-
 pub returns-then-clause-ne1 : goal.returns-then-clause-ne1
 returns-then-clause-ne1 c = one-clause c.args.nodes.now c.args.commands.now c.args.premises.now c.args.args.now (omega arith) c.clause_of-clause.result.now c.clause_of-clause.ensures (λ e. omega arith)
 

@@ -6,14 +6,8 @@ use Rattle.links.proofs.two_premises.Goals as goal
 pub returns-then-premises-ne2 : goal.returns-then-premises-ne2
 returns-then-premises-ne2 c = both-premises c.args.nodes.now c.args.commands.now c.args.premises.now c.args.args.now c.args.conclusion.now (λ e. omega arith)
 
-pub clause_of-left-requires : goal.clause_of-left-requires
-clause_of-left-requires c = c.requires.step.premises 0 (omega arith)
-
 pub returns-then-left-ne1 : goal.returns-then-left-ne1
 returns-then-left-ne1 c = both_left c.args.nodes.now c.args.commands.now c.args.premises.now c.args.args.now c.args.conclusion.now (omega arith) c.clause_of-left.result.now c.clause_of-left.ensures (λ e. omega arith)
-
-pub clause_of-right-requires : goal.clause_of-right-requires
-clause_of-right-requires c = c.requires.step.premises 1 (omega arith)
 
 pub returns-then-right-ne1 : goal.returns-then-right-ne1
 returns-then-right-ne1 c = both_right c.args.nodes.now c.args.commands.now c.args.premises.now c.args.args.now c.args.conclusion.now (omega arith) c.clause_of-left.result.now c.clause_of-left.ensures (omega arith) c.clause_of-right.result.now c.clause_of-right.ensures (λ e. omega arith)

@@ -15,7 +15,7 @@ pub are_arithmetic-kind_of-requires : goal.are_arithmetic-kind_of-requires
 are_arithmetic-kind_of-requires t c = omega (arith, c.wide.ensures, node-room (left-node c.loop-k.invariant c.requires.0 (omega arith) c.requires.1))
 
 pub are_arithmetic-is_arithmetic-requires : goal.are_arithmetic-is_arithmetic-requires
-are_arithmetic-is_arithmetic-requires t c = (omega (arith, c.decreases, left_below c.loop-k.invariant c.requires.0 (omega arith)), (left-node c.loop-k.invariant c.requires.0 (omega arith) c.requires.1, omega (arith, c.if-kind_of-lt-PLUS_KIND.true, rw c.wide.ensures at c.kind_of.ensures)))
+are_arithmetic-is_arithmetic-requires t c = (omega (arith, c.decreases, left_below c.loop-k.invariant c.requires.0 (omega arith)), (left-node c.loop-k.invariant c.requires.0 (omega arith) c.requires.1, omega (arith, rw c.wide.ensures at c.kind_of.ensures)))
 
 pub are_arithmetic-returns-then-not-is_arithmetic : goal.are_arithmetic-returns-then-not-is_arithmetic
 are_arithmetic-returns-then-not-is_arithmetic t c = left-stop is_arithmetic are_arithmetic arithmetic-none arithmetic-more c.loop-k.invariant c.requires.0 (omega arith) (rw c.if-not-is_arithmetic.true at c.is_arithmetic.ensures)

@@ -5,16 +5,16 @@ use Rattle.matching.proofs.Matches.{node-few, literal-negated, literal-plain, ke
 use Rattle.matching.proofs.literal_key.Goals as goal
 
 pub number_of-requires : goal.number_of-requires
-number_of-requires c = (rw c.in-Of.is at c.negation_of.ensures).inner.node
+number_of-requires c = (rw c.in-Some.is at c.negation_of.ensures).inner.node
 
 pub key_of-requires : goal.key_of-requires
 key_of-requires c = node-few c.number_of.ensures.variable.node
 
-pub key_of-requires-in-Not : goal.key_of-requires-in-Not
-key_of-requires-in-Not c = node-few c.number_of-in-Not.ensures.variable.node
+pub key_of-requires-in-None : goal.key_of-requires-in-None
+key_of-requires-in-None c = node-few c.number_of-in-None.ensures.variable.node
 
-pub returns-in-Of : goal.returns-in-Of
-returns-in-Of c = key-is true (literal-negated (rw c.in-Of.is at c.negation_of.ensures) _ refl) c.number_of.ensures _ c.key_of.ensures
+pub returns-in-Some : goal.returns-in-Some
+returns-in-Some c = key-is true (literal-negated (rw c.in-Some.is at c.negation_of.ensures) _ refl) c.number_of.ensures _ c.key_of.ensures
 
-pub returns-in-Not : goal.returns-in-Not
-returns-in-Not c = key-is false (literal-plain (c.requires) (rw c.in-Not.is at c.negation_of.ensures) _ refl) c.number_of-in-Not.ensures _ c.key_of-in-Not.ensures
+pub returns-in-None : goal.returns-in-None
+returns-in-None c = key-is false (literal-plain (c.requires) (rw c.in-None.is at c.negation_of.ensures) _ refl) c.number_of-in-None.ensures _ c.key_of-in-None.ensures

@@ -15,8 +15,5 @@ returns-then-not-equal c = constants_differ (rw c.if-not-all_agree.false at c.al
 pub all_names-requires : goal.all_names-requires
 all_names-requires c = (nodes-first c.requires.general, omega (arith, c.requires.general.most, c.requires.room.keys), omega arith, omega (arith, c.requires.general.most))
 
-pub all_names-requires-2 : goal.all_names-requires-2
-all_names-requires-2 c = (c.requires.normalized.nodes, omega (arith, c.requires.normalized.most, c.requires.room.keys), omega arith, omega (arith, c.requires.normalized.most))
-
 pub returns : goal.returns
 returns c = sides-agree (rw c.if-not-all_agree.false at c.all_agree.ensures) (sym (rw (to_z-of_z c.ranges.total, to_z-of_z c.ranges.z) at (same_integer-tests _ _ c.equal.result c.equal.ensures)) ∙ c.if-not-equal.false) (names-first c.requires.general c.all_names.ensures) c.all_names-2.ensures c.both.ensures

@@ -1,28 +1,16 @@
 -- `normalize::normalized`: 23 for the equation, then the relation, then its sides.
 use Rattle.normalize.proofs.Relating.{whole-not, whole-refused, whole-sides}
+use Rattle.normalize.proofs.Returned.{passed, refused}
 use Rattle.normalize.proofs.normalized.Goals as goal
 
-pub match_supported_relation_err-requires : goal.match_supported_relation_err-requires
-match_supported_relation_err-requires c =
-    let pair = (rw c.in-Of.is at c.binary.ensures) in
-    pair.left.node
+pub returns-in_err-general : goal.returns-in_err-general
+returns-in_err-general c =
+    rw (refused c.from_residual.result c.from_residual.ensures.1 c.in_err-general.ensures.ok_part c.in_err-general.ensures.value) (whole-not (rw c.in_err-general.ensures.ok_part at c.binary.ensures))
 
-pub sides_check-requires : goal.sides_check-requires
-sides_check-requires c =
-    let pair = (rw c.in-Of.is at c.binary.ensures) in
-    let relation = (rw c.in-Is.is at c.match_supported_relation_err.ensures) in
-    record { low = relation.low; high = relation.high; left = relation.left.node; right = relation.right.node; form = pair.right.node; room = c.requires.room }
+pub returns-in_err-op : goal.returns-in_err-op
+returns-in_err-op c =
+    rw (passed c.from_residual-in_err-op.result c.from_residual-in_err-op.ensures.1)
+    (whole-refused (rw c.in_ok-general.ensures.ok_part at c.binary.ensures) (rw c.in_err-op.was at c.match_supported_relation_err.ensures))
 
-pub returns-in-Not : goal.returns-in-Not
-returns-in-Not c = whole-not (rw c.in-Not.is at c.binary.ensures)
-
-pub returns-in-Refused : goal.returns-in-Refused
-returns-in-Refused c =
-    let pair = (rw c.in-Of.is at c.binary.ensures) in
-    whole-refused pair (rw c.in-Refused.is at c.match_supported_relation_err.ensures)
-
-pub returns-in-Is : goal.returns-in-Is
-returns-in-Is c =
-    let pair = (rw c.in-Of.is at c.binary.ensures) in
-    let relation = (rw c.in-Is.is at c.match_supported_relation_err.ensures) in
-    whole-sides pair relation c.sides_check.ensures
+pub returns : goal.returns
+returns c = whole-sides (rw c.in_ok-general.ensures.ok_part at c.binary.ensures) (rw c.in_ok-op.was at c.match_supported_relation_err.ensures) c.sides_check.ensures

@@ -2,15 +2,11 @@
 use mathlib.Core.Path.{refl, ◌∙◌, ap}
 use native.Mathlib.Omega.{arith}
 use mir.Facts.{to_z-of_z}
-use Rattle.integer.proofs.Fits.{within_more}
 use Rattle.integer.proofs.Signed.{back}
 use Rattle.matching.proofs.Matches.{kept}
 use Rattle.normalize.specs.Flattening.{turn}
 use Rattle.normalize.proofs.Growing.{entry-grown}
 use Rattle.normalize.proofs.put_entry.Goals as goal
-
-pub turn_by-requires : goal.turn_by-requires
-turn_by-requires c = rw (to_z-of_z c.ranges.c) (within_more (omega arith) c.requires.within)
 
 pub returns : goal.returns
 returns c =

@@ -7,45 +7,19 @@ use Rattle.normalize.proofs.Growing.{grown-as, constant-grown}
 use Rattle.normalize.proofs.Trees.{leaf-num, leaf-ctv}
 use Rattle.normalize.proofs.put_leaf.Goals as goal
 
-pub put_constant-requires : goal.put_constant-requires
-put_constant-requires c =
-    let number = (rw c.in-Is.is at c.as_constant.ensures) in
-    record {
-      within = c.requires.good.bound;
-      within_2 = rw (kept (omega arith) number.within) (within_more (omega arith) number.within);
-      leaves_lt_max_summands = c.requires.room;
-    }
-
-pub put_entry-requires : goal.put_entry-requires
-put_entry-requires c =
-    let found = (rw c.in-Entry.is at c.term_to_ctv.ensures) in
-    record {
-      leaf_ready = record { node = found.inner.node; good = c.requires.good; room = c.requires.room };
-      within = rw (kept (omega arith) found.within) found.within;
-    }
-
-pub put_constant-requires-in-Constant : goal.put_constant-requires-in-Constant
-put_constant-requires-in-Constant c =
-    let product = (rw c.in-Constant.is at c.term_to_ctv.ensures) in
-    record {
-      within = c.requires.good.bound;
-      within_2 = rw (kept (omega arith) product.within) product.within;
-      leaves_lt_max_summands = c.requires.room;
-    }
-
-pub returns-in-Is : goal.returns-in-Is
-returns-in-Is c =
-    let number = (rw c.in-Is.is at c.as_constant.ensures) in
+pub returns-in-Some : goal.returns-in-Some
+returns-in-Some c =
+    let number = rw c.in-Some.is at c.as_constant.ensures in
     constant-grown _ c.put_constant.result c.requires.good c.requires.room (λ s. leaf-num (decode s c.args.nodes.now c.args.i) _ (number.is s)) (within_more (omega arith) number.within) (rw (kept (omega arith) number.within) at c.put_constant.ensures)
 
 pub returns-in-Entry : goal.returns-in-Entry
 returns-in-Entry c =
-    let other = (rw c.in-Not.is at c.as_constant.ensures) in
-    let found = (rw c.in-Entry.is at c.term_to_ctv.ensures) in
+    let other = rw c.in_default.is at c.as_constant.ensures in
+    let found = rw c.in-Entry.is at c.term_to_ctv.ensures in
     grown-as (λ s. leaf-ctv (decode s c.args.nodes.now c.args.i) _ (other s) (found.is s)) (omega (arith, found.inner.before)) (rw (kept (omega arith) found.within) at c.put_entry.ensures)
 
 pub returns-in-Constant : goal.returns-in-Constant
 returns-in-Constant c =
-    let other = (rw c.in-Not.is at c.as_constant.ensures) in
-    let product = (rw c.in-Constant.is at c.term_to_ctv.ensures) in
+    let other = rw c.in_default.is at c.as_constant.ensures in
+    let product = rw c.in-Constant.is at c.term_to_ctv.ensures in
     constant-grown _ c.put_constant-in-Constant.result c.requires.good c.requires.room (λ s. leaf-ctv (decode s c.args.nodes.now c.args.i) _ (other s) (product.is s)) product.within (rw (kept (omega arith) product.within) at c.put_constant-in-Constant.ensures)

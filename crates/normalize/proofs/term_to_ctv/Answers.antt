@@ -3,63 +3,27 @@ use mathlib.Core.Path.{refl, ◌∙◌}
 use native.Mathlib.Omega.{arith}
 use Rattle.integer.proofs.Signed.{back}
 use Rattle.matching.proofs.Matches.{kept}
-use Rattle.normalize.proofs.Products.{product-fits, entry_whole, entry-left, entry-right, entry-neither, product-both}
+use Rattle.normalize.proofs.Products.{entry_whole, entry-left, entry-right, entry-neither, product-both}
 use Rattle.normalize.proofs.term_to_ctv.Goals as goal
 
-pub as_constant-requires : goal.as_constant-requires
-as_constant-requires c =
-    let pair = (rw c.in-Of.is at c.binary.ensures) in
-    pair.left.node
+pub returns-in_default : goal.returns-in_default
+returns-in_default c = entry_whole c.in_default.ensures c.literal_of.ensures refl
 
-pub as_constant-requires-in-Is : goal.as_constant-requires-in-Is
-as_constant-requires-in-Is c =
-    let pair = (rw c.in-Of.is at c.binary.ensures) in
-    pair.right.node
+pub returns-in-Some-Some : goal.returns-in-Some-Some
+returns-in-Some-Some c =
+    let left = rw c.in-Some-Some.is-0 at c.as_constant.ensures in
+    let right = rw c.in-Some-Some.is-1 at c.as_constant-2.ensures in
+    product-both (rw c.in-Some.is at c.binary.ensures) left right (back c.multiply.result c.multiply.type_inv ∙ c.multiply.ensures ∙ rw (kept (omega arith) left.within, kept (omega arith) right.within) refl)
 
-pub multiply-requires : goal.multiply-requires
-multiply-requires c =
-    let left = (rw c.in-Is.is at c.as_constant.ensures) in
-    let right = (rw c.in-Is-as_constant.is at c.as_constant-in-Is.ensures) in
-    rw (kept (omega arith) left.within, kept (omega arith) right.within) (product-fits left.within right.within)
+pub returns-in-Some-None : goal.returns-in-Some-None
+returns-in-Some-None c =
+    let left = rw c.in-Some-None.is-0 at c.as_constant.ensures in
+    entry-left (rw c.in-Some.is at c.binary.ensures) left (rw c.in-Some-None.is-1 at c.as_constant-2.ensures) c.literal_of-in-Some-None.ensures (kept (omega arith) left.within)
 
-pub literal_of-requires-in-Not-as_constant-2 : goal.literal_of-requires-in-Not-as_constant-2
-literal_of-requires-in-Not-as_constant-2 c =
-    let pair = (rw c.in-Of.is at c.binary.ensures) in
-    pair.right.node
+pub returns-in-None-Some : goal.returns-in-None-Some
+returns-in-None-Some c =
+    let right = rw c.in-None-Some.is-1 at c.as_constant-2.ensures in
+    entry-right (rw c.in-Some.is at c.binary.ensures) (rw c.in-None-Some.is-0 at c.as_constant.ensures) right c.literal_of-in-None-Some.ensures (kept (omega arith) right.within)
 
-pub as_constant-requires-in-Not-as_constant : goal.as_constant-requires-in-Not-as_constant
-as_constant-requires-in-Not-as_constant c =
-    let pair = (rw c.in-Of.is at c.binary.ensures) in
-    pair.right.node
-
-pub literal_of-requires-in-Is-as_constant-2 : goal.literal_of-requires-in-Is-as_constant-2
-literal_of-requires-in-Is-as_constant-2 c =
-    let pair = (rw c.in-Of.is at c.binary.ensures) in
-    pair.left.node
-
-pub returns-in-Not : goal.returns-in-Not
-returns-in-Not c = entry_whole (rw c.in-Not.is at c.binary.ensures) c.literal_of.ensures refl
-
-pub returns-in-Is-as_constant : goal.returns-in-Is-as_constant
-returns-in-Is-as_constant c =
-    let pair = (rw c.in-Of.is at c.binary.ensures) in
-    let left = (rw c.in-Is.is at c.as_constant.ensures) in
-    let right = (rw c.in-Is-as_constant.is at c.as_constant-in-Is.ensures) in
-    product-both pair left right (back c.multiply.result c.multiply.type_inv ∙ c.multiply.ensures ∙ rw (kept (omega arith) left.within, kept (omega arith) right.within) refl)
-
-pub returns-in-Not-as_constant-2 : goal.returns-in-Not-as_constant-2
-returns-in-Not-as_constant-2 c =
-    let pair = (rw c.in-Of.is at c.binary.ensures) in
-    let left = (rw c.in-Is.is at c.as_constant.ensures) in
-    entry-left pair left (rw c.in-Not-as_constant-2.is at c.as_constant-in-Is.ensures) c.literal_of-in-Not-as_constant-2.ensures (kept (omega arith) left.within)
-
-pub returns-in-Is-as_constant-2 : goal.returns-in-Is-as_constant-2
-returns-in-Is-as_constant-2 c =
-    let pair = (rw c.in-Of.is at c.binary.ensures) in
-    let right2 = (rw c.in-Is-as_constant-2.is at c.as_constant-in-Not-as_constant.ensures) in
-    entry-right pair (rw c.in-Not-as_constant.is at c.as_constant.ensures) right2 c.literal_of-in-Is-as_constant-2.ensures (kept (omega arith) right2.within)
-
-pub returns-in-Not-as_constant-3 : goal.returns-in-Not-as_constant-3
-returns-in-Not-as_constant-3 c =
-    let pair = (rw c.in-Of.is at c.binary.ensures) in
-    entry-neither pair (rw c.in-Not-as_constant.is at c.as_constant.ensures) (rw c.in-Not-as_constant-3.is at c.as_constant-in-Not-as_constant.ensures) c.literal_of-in-Not-as_constant-3.ensures refl
+pub returns-in-None-None : goal.returns-in-None-None
+returns-in-None-None c = entry-neither (rw c.in-Some.is at c.binary.ensures) (rw c.in-None-None.is-0 at c.as_constant.ensures) (rw c.in-None-None.is-1 at c.as_constant-2.ensures) c.literal_of-in-None-None.ensures refl

@@ -9,9 +9,6 @@ returns-then-premises-ne1 c = λ x. cap-20 c.args.nodes.now c.args.commands.now 
 pub returns-then-args-ne0 : goal.returns-then-args-ne0
 returns-then-args-ne0 c = λ x. cap-22 c.args.nodes.now c.args.commands.now c.args.premises.now c.args.args.now c.args.conclusion.now x (omega arith) (λ e. omega arith)
 
-pub clause_of-clause-requires : goal.clause_of-clause-requires
-clause_of-clause-requires c = c.requires.step.premises 0 (omega arith)
-
 pub returns-then-clause-ne1 : goal.returns-then-clause-ne1
 returns-then-clause-ne1 c = λ x. cap-premise c.args.nodes.now c.args.commands.now c.args.premises.now c.args.args.now c.args.conclusion.now x (omega arith) (omega arith) c.clause_of-clause.result.now c.clause_of-clause.ensures (λ e. omega arith)
 

@@ -1,26 +1,16 @@
 -- What the counts leave of the rule is the addition of the two inequalities.
 use mathlib.Core.Path.{◌∙◌, sym}
+use Rattle.sums.proofs.Reading.{passed}
 use Rattle.rules.specs.Checked.{add_terms}
 use Rattle.rules.proofs.Adding.{addition-is, three-read}
 use Rattle.rules.proofs.cp_addition.Goals as goal
 
-pub unwrap_three-three-requires : goal.unwrap_three-three-requires
-unwrap_three-three-requires c = let B = rw c.in-Of.is at c.two_premises.ensures in record {
-  node = (B.left, B.right, B.conclusion);
-  rooms = c.requires.rooms;
-}
+pub returns-in_err-left : goal.returns-in_err-left
+returns-in_err-left c = rw (passed c.from_residual.result c.from_residual.ensures.1) (λ x I. sym ((rw c.in_err-left.was at c.two_premises.ensures) x.text add_terms) ∙ addition-is _ _ _)
 
-pub added-requires : goal.added-requires
-added-requires c = record {
-  rooms = c.unwrap_three-three.ensures.1;
-  fine = (c.unwrap_three-three.ensures.0.left.fine, c.unwrap_three-three.ensures.0.left.few, c.unwrap_three-three.ensures.0.left.bounded);
-  literals = (c.unwrap_three-three.ensures.0.right.fine.literals, c.unwrap_three-three.ensures.0.right.few, c.unwrap_three-three.ensures.0.right.bounded);
-  fine_2 = (c.unwrap_three-three.ensures.0.conclusion.fine, c.unwrap_three-three.ensures.0.conclusion.within);
-  within = c.unwrap_three-three.ensures.0.small;
-}
+pub returns-in_err-three : goal.returns-in_err-three
+returns-in_err-three c = let B = rw c.in_ok-left.was at c.two_premises.ensures in let R = rw c.in_err-three.was at c.unwrap_three.ensures in
+    rw (passed c.from_residual-in_err-three.result c.from_residual-in_err-three.ensures.1) (λ x I. sym (R.0 x (B.before x.n I).0 (B.before x.n I).1 (B.before x.n I).2) ∙ sym (B.is x.text add_terms) ∙ addition-is _ _ _)
 
-pub returns-in-Refused : goal.returns-in-Refused
-returns-in-Refused c = λ x I. sym ((rw c.in-Refused.is at c.two_premises.ensures) x.text add_terms) ∙ addition-is _ _ _
-
-pub returns-in-Of : goal.returns-in-Of
-returns-in-Of c = λ x I. let B = rw c.in-Of.is at c.two_premises.ensures in three-read c.unwrap_three-three.result c.unwrap_three-three.ensures.0 c.added.result c.added.ensures x (B.before x.n I).0 (B.before x.n I).1 (B.before x.n I).2 ∙ sym (B.is x.text add_terms) ∙ addition-is _ _ _
+pub returns : goal.returns
+returns c = λ x I. let B = rw c.in_ok-left.was at c.two_premises.ensures in let R = rw c.in_ok-three.was at c.unwrap_three.ensures in three-read c.in_ok-three.three R.0 c.added.result c.added.ensures x (B.before x.n I).0 (B.before x.n I).1 (B.before x.n I).2 ∙ sym (B.is x.text add_terms) ∙ addition-is _ _ _

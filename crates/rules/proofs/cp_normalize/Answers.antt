@@ -6,11 +6,5 @@ use Rattle.rules.proofs.cp_normalize.Goals as goal
 pub returns-then-conclusion-ne1 : goal.returns-then-conclusion-ne1
 returns-then-conclusion-ne1 c = λ x I. normalize-21 c.args.nodes.now c.args.commands.now c.args.premises.now c.args.args.now c.args.conclusion.now x (λ e. omega arith)
 
-pub normalized-requires : goal.normalized-requires
-normalized-requires c = record {
-  node = c.requires.all_nodes 0 (omega arith);
-  room = c.requires.lines;
-}
-
 pub returns : goal.returns
 returns c = λ x I. normalize-one c.args.nodes.now c.args.commands.now c.args.premises.now c.args.args.now c.args.conclusion.now x _ (omega arith) (c.normalized.ensures.is x (I.conclusion 0 (omega arith)))

@@ -1,32 +1,20 @@
--- Both were read, each by its own number.
-use native.Mathlib.Omega.{arith}
-use Rattle.matching.proofs.Matches.{kept}
+-- Both were read, or the first that was not says the number.
 use mathlib.Core.Path.{◌∙◌}
-use Rattle.sums.specs.Places.{left_at, conclusion_at}
-use Rattle.sums.proofs.Places.{room_of, rooms-still, inequality-still, conclusion-aside}
+use native.Mathlib.Omega.{arith}
+use Rattle.matching.proofs.Checks.{bind-of, bind-bad}
+use Rattle.sums.specs.Places.{left_at}
+use Rattle.sums.proofs.Reading.{passed}
+use Rattle.sums.proofs.Places.{rooms-still, inequality-still, conclusion-aside}
 use Rattle.rules.proofs.unwrap_two.Goals as goal
 
-pub unwrap_pseudoboolean_inequality-p-requires : goal.unwrap_pseudoboolean_inequality-p-requires
-unwrap_pseudoboolean_inequality-p-requires c = record {
-  node = c.requires.node.0;
-  room = room_of c.requires.rooms left_at (omega arith);
-}
+pub returns-in_err-p : goal.returns-in_err-p
+returns-in_err-p c = let e = rw c.in_err-p.was at c.unwrap_pseudoboolean_inequality.ensures in
+    rw (passed c.from_residual.result c.from_residual.ensures.1) (λ x rest u v. bind-bad _ _ _ (e.0 x u), rooms-still e.1 c.requires.rooms)
 
-pub unwrap_pseudoboolean_inequality-c-requires : goal.unwrap_pseudoboolean_inequality-c-requires
-unwrap_pseudoboolean_inequality-c-requires c = record {
-  node = c.requires.node.1;
-  room = room_of (rooms-still c.unwrap_pseudoboolean_inequality-p.ensures.1 c.requires.rooms) conclusion_at (omega arith);
-}
-
-pub shape_of-coeffs : goal.shape_of-coeffs
-shape_of-coeffs c = c.unwrap_pseudoboolean_inequality-c.ensures.1.coefficients.long ∙ c.unwrap_pseudoboolean_inequality-p.ensures.1.coefficients.long
-
-pub shape_of-keys : goal.shape_of-keys
-shape_of-keys c = c.unwrap_pseudoboolean_inequality-c.ensures.1.keys.long ∙ c.unwrap_pseudoboolean_inequality-p.ensures.1.keys.long
-
-pub shape_of-slots : goal.shape_of-slots
-shape_of-slots c = c.unwrap_pseudoboolean_inequality-c.ensures.1.long ∙ c.unwrap_pseudoboolean_inequality-p.ensures.1.long
+pub returns-in_err-c : goal.returns-in_err-c
+returns-in_err-c c = let e = rw c.in_ok-p.was at c.unwrap_pseudoboolean_inequality.ensures in let d = rw c.in_err-c.was at c.unwrap_pseudoboolean_inequality-2.ensures in
+    rw (passed c.from_residual-in_err-c.result c.from_residual-in_err-c.ensures.1) (λ x rest u v. bind-of _ _ _ (e.0.is x u) ∙ bind-bad _ _ _ (d.0 x v), rooms-still d.1 (rooms-still e.1 c.requires.rooms))
 
 pub returns : goal.returns
-returns c = let e = c.unwrap_pseudoboolean_inequality-p.ensures in let d = c.unwrap_pseudoboolean_inequality-c.ensures in
-    (rw (kept (omega arith) e.0.within, kept (omega arith) d.0.within) (record { p = c.unwrap_pseudoboolean_inequality-p.result.number; q = c.unwrap_pseudoboolean_inequality-c.result.number; first = inequality-still d.1 left_at (λ i j a b q. omega arith) conclusion-aside e.0; second = d.0; number = c.first_number.ensures }), rooms-still d.1 (rooms-still e.1 c.requires.rooms))
+returns c = let e = rw c.in_ok-p.was at c.unwrap_pseudoboolean_inequality.ensures in let d = rw c.in_ok-c.was at c.unwrap_pseudoboolean_inequality-2.ensures in
+    (record { first = inequality-still d.1 left_at (λ i j a b q. omega arith) conclusion-aside e.0; second = d.0 }, rooms-still d.1 (rooms-still e.1 c.requires.rooms))

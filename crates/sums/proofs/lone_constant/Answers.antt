@@ -3,9 +3,6 @@ use native.Mathlib.Omega.{arith}
 use Rattle.sums.proofs.Reading.{lone_is, lone_not}
 use Rattle.sums.proofs.lone_constant.Goals as goal
 
-pub as_constant-requires : goal.as_constant-requires
-as_constant-requires c = c.requires 0 (omega arith)
-
 pub returns-then-ts-eq1 : goal.returns-then-ts-eq1
 returns-then-ts-eq1 c = lone_is _ _ c.as_constant.result (omega arith) c.as_constant.ensures
 

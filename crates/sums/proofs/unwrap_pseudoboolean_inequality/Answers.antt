@@ -1,25 +1,24 @@
 -- The relation, the constant, the sum: each way out is one law.
-use mathlib.Core.Path.{refl}
 use native.Mathlib.Omega.{arith}
 use Rattle.matching.proofs.Matches.{kept}
+use Rattle.matching.specs.declared.Refusal.TheVariants.{TermOfWrongForm, ExpectedAnyInteger}
 use Rattle.sums.proofs.Places.{elsewhere-none}
-use Rattle.sums.proofs.Reading.{inequality-23, inequality-24, inequality-read}
+use Rattle.sums.proofs.Reading.{passed, refused, inequality-23, inequality-24, inequality-refused, inequality-read}
 use Rattle.sums.proofs.unwrap_pseudoboolean_inequality.Goals as goal
 
-pub as_constant-requires : goal.as_constant-requires
-as_constant-requires c = (rw c.in-Of.is at c.binary.ensures).right.node
+pub returns-in_err-pbsum : goal.returns-in_err-pbsum
+returns-in_err-pbsum c = let w = refused c.binary.result TermOfWrongForm c.from_residual.result c.ok_or.ensures.value c.in_err-pbsum.was c.from_residual.ensures.1 in
+    rw w.1 (λ x h. inequality-23 _ _ (rw w.0 at c.binary.ensures) x.text, elsewhere-none _ _ _ _)
 
-pub get_pb_hashmap-read-requires : goal.get_pb_hashmap-read-requires
-get_pb_hashmap-read-requires c = record {
-  node = (rw c.in-Of.is at c.binary.ensures).left.node;
-  room = c.requires.room;
-}
+pub returns-in_err-constant : goal.returns-in_err-constant
+returns-in_err-constant c = let p = rw (rw c.in_ok-pbsum.was at c.ok_or.ensures.ok_part) at c.binary.ensures in
+    let w = refused c.as_constant.result ExpectedAnyInteger c.from_residual-in_err-constant.result c.ok_or-2.ensures.value c.in_err-constant.was c.from_residual-in_err-constant.ensures.1 in
+    rw w.1 (λ x h. inequality-24 _ _ p (rw w.0 at c.as_constant.ensures) x.text, elsewhere-none _ _ _ _)
 
-pub returns-in-Not : goal.returns-in-Not
-returns-in-Not c = (inequality-23 _ _ _ _ _ _ _ refl refl (rw c.in-Not.is at c.binary.ensures), elsewhere-none _ _ _ _)
+pub returns-in_err-count : goal.returns-in_err-count
+returns-in_err-count c = let p = rw (rw c.in_ok-pbsum.was at c.ok_or.ensures.ok_part) at c.binary.ensures in let z = rw (rw c.in_ok-constant.was at c.ok_or-2.ensures.ok_part) at c.as_constant.ensures in
+    let r = rw c.in_err-count.was at c.get_pb_hashmap.ensures in rw (passed c.from_residual-in_err-count.result c.from_residual-in_err-count.ensures.1) (inequality-refused _ _ p z r.0, r.1)
 
-pub returns-in-Not-as_constant : goal.returns-in-Not-as_constant
-returns-in-Not-as_constant c = (inequality-24 _ _ (rw c.in-Of.is at c.binary.ensures) _ _ _ _ _ refl refl (rw c.in-Not-as_constant.is at c.as_constant.ensures), elsewhere-none _ _ _ _)
-
-pub returns-in-Is : goal.returns-in-Is
-returns-in-Is c = (inequality-read _ _ (rw c.in-Of.is at c.binary.ensures) (rw c.in-Is.is at c.as_constant.ensures) _ (kept (omega arith) (rw c.in-Is.is at c.as_constant.ensures).within) c.get_pb_hashmap-read.ensures.0, c.get_pb_hashmap-read.ensures.1)
+pub returns : goal.returns
+returns c = let p = rw (rw c.in_ok-pbsum.was at c.ok_or.ensures.ok_part) at c.binary.ensures in let z = rw (rw c.in_ok-constant.was at c.ok_or-2.ensures.ok_part) at c.as_constant.ensures in
+    let r = rw c.in_ok-count.was at c.get_pb_hashmap.ensures in (inequality-read _ _ p z _ (kept (omega arith) z.within) r.0, r.1)
