@@ -13,7 +13,9 @@ use Rattle.calculus.specs.Pol.{pushed_ids}
 use Rattle.calculus.specs.Terms.{PolWord, line_word, plain_word, negated_word, plus-word, saturate-word, times-word, over_word}
 use Rattle.heads.specs.PolHeads.{pol_word_of, PolWordIs}
 use Rattle.heads.specs.declared.PolHead.{PolHead}
-use Rattle.heads.specs.declared.PolHead.TheVariants.{Plain, Negated, Add, Saturate, Times, Over, NoWord}
+use Rattle.std.specs.Prelude.{Ok, Err}
+use Rattle.lexer.specs.declared.Fault.{Fault}
+use Rattle.heads.specs.declared.PolHead.TheVariants.{Plain, Negated, Add, Saturate, Times, Over}
 use Rattle.lexer.specs.Tokens.{place}
 use Rattle.terms.specs.Spans.{strings}
 use Rattle.terms.proofs.Places.{string-found}
@@ -58,13 +60,6 @@ word-is {A} {a} q = sym (ap value q)
     value (got x t n) = x
     value (off e p) = a
 
-off-word : {A B : Type 0} {a : A} {e p t n : ℕ} → ◌≡◌ {A = Reads A} (off e p) (got a t n) → B
-off-word {A} q = absurd (subst none q tt)
-  where
-    none : Reads A → Type 0
-    none (got x t n) = ⊥
-    none (off e p) = Unit
-
 and_true : (b : Bool) → b ≡ (b && true)
 and_true true = refl
 and_true false = refl
@@ -94,7 +89,6 @@ module _ (s w : List ℕ) (k : ℕ) (marks : List Bool) where
   Other (Saturate t) = Unit
   Other (Times m v t) = Unit
   Other (Over m v t) = Unit
-  Other (NoWord e p) = Unit
 
   push-other : (head : PolHead) → Other head → PushIs s w k head marks true
   unfolding pol_word_of all_hold pushed_ids
@@ -104,7 +98,6 @@ module _ (s w : List ℕ) (k : ℕ) (marks : List Bool) where
   push-other (Saturate t) o ls H x next n q = rw (word-is q) refl
   push-other (Times m v t) o ls H x next n q = rw (word-is q) refl
   push-other (Over m v t) o ls H x next n q = rw (word-is q) refl
-  push-other (NoWord e p) o ls H x next n q = off-word q
 
   pub push-as : {head other : PolHead} → head ≡ other → Other other → PushIs s w k head marks true
   push-as {head} {other} e o = subst (λ (h : PolHead). PushIs s w k h marks true) (sym e) (push-other other o)
@@ -124,17 +117,13 @@ walk_start s w k marks (ws, e, m, q) = record {
   held = λ ls H. refl;
 }
 
-module _ {s w : List ℕ} {k : ℕ} {marks : List Bool} {i : ℕ} (W : Walk s w k marks i) (head : PolHead) (H : PolWordIs s i head) where
-  -- there is a word
-  pub walk-word : (e p : ℕ) → head ≡ NoWord e p → ⊥
-  unfolding pol_word_of
-  walk-word e p q = ahead-word (above_in s w k) s W.ahead {e = e} {p = p} (sym (H (above_in s w k) W.ahead.nodes) ∙ ap (pol_word_of (above_in s w k) s W.ahead.nodes) q)
+-- there is a word
+pub walk-word : {s w : List ℕ} {k : ℕ} {marks : List Bool} {i : ℕ} → Walk s w k marks i → (fault : Fault) → PolWordIs s i (Err fault) → ⊥
+walk-word {s} {w} {k} W fault H = ahead-word (above_in s w k) s W.ahead (sym (H (above_in s w k) W.ahead.nodes))
 
+module _ {s w : List ℕ} {k : ℕ} {marks : List Bool} {i : ℕ} (W : Walk s w k marks i) (head : PolHead) (H : PolWordIs s i (Ok head)) where
   word-here : {B : Type 0} → ((x : PolWord) → ((n : ℕ) → pol_word_of (above_in s w k) s n head ≡ got x (behind_of head) n) → Behind (above_in s w k) s (behind_of head) (W.words ++ (x ∷ [])) (pol_words_of s w k) → B) → B
-  word-here f =
-      by_head (above_in s w k) s head
-      (λ e p q. absurd (ahead-word (above_in s w k) s W.ahead (sym (H (above_in s w k) W.ahead.nodes) ∙ q W.ahead.nodes)))
-      (λ x q. f x q (ahead-behind (above_in s w k) s W.ahead (sym (H (above_in s w k) W.ahead.nodes) ∙ q W.ahead.nodes)))
+  word-here f = by_head (above_in s w k) s head (λ x q. f x q (ahead-behind (above_in s w k) s W.ahead (sym (H (above_in s w k) W.ahead.nodes) ∙ q W.ahead.nodes)))
 
   module _ {r : Bool} (P : PushIs s w k head marks r) where
     -- those before it and it

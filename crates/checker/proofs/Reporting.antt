@@ -21,8 +21,7 @@ use Rattle.theorems.proofs.Soundness.{sound-written}
 use Rattle.nodes.specs.Nodes.{decode}
 use Rattle.reader.specs.Commands.{all_words, word_at, kind_word, clause_word, premises_word, arguments_word, part_at, pol_kind, pol_words_of, command_as, command_of}
 use Rattle.reader.specs.Reading.{ReadsFile}
-use Rattle.reader.specs.declared.Whole.{Whole}
-use Rattle.reader.specs.declared.Whole.TheVariants.{All, Refused, Small}
+use Rattle.reader.specs.Reading.{Whole, All, Refused, Small}
 use Rattle.opb_reader.specs.Reading.{BothIs}
 use Rattle.report.specs.Lines.{step_name, name_of, LineHas, LinesAre, Printable}
 use Rattle.report.specs.Written.{Wrote}
@@ -93,9 +92,6 @@ module _ (o s j u x : List ℕ) (r : Whole) (R : BothIs o s j u x r) where
   pub both-refusal : (number byte : ℕ) → r ≡ Refused number byte → {d e : List ℕ} {m : ℕ} → Wrote d 0 (refusal_text number byte) e m → Wrote d 0 (report_both o s) e m
   unfolding report_both report_read
   both-refusal number byte q {d} {e} {m} W = subst (λ (z : List ℕ). Wrote d 0 z e m) (sym (ap report_read (subst (BothIs o s j u x) q R))) W
-
-  pub both-never-small : r ≡ Small → {A : Type 0} → A
-  both-never-small q {A} = absurd (subst (BothIs o s j u x) q R)
 
 -- an OPB text of more than 32,768 bytes
 pub opb-long : (o s : List ℕ) → max_text < length o → {d e : List ℕ} {m : ℕ} → Wrote d 0 (refusal_text 2 max_text) e m → Wrote d 0 (report_both o s) e m

@@ -14,8 +14,7 @@ use Rattle.theorems.proofs.OpbIds.{both-limits}
 use Rattle.theorems.proofs.OpbSoundness.{both-faithful}
 use Rattle.reader.specs.Commands.{command_of, commands_of}
 use Rattle.reader.specs.Reading.{ReadsFile}
-use Rattle.reader.specs.declared.Whole.{Whole}
-use Rattle.reader.specs.declared.Whole.TheVariants.{All}
+use Rattle.reader.specs.Reading.{Whole, All}
 use Rattle.opb_reader.specs.Reading.{BothIs}
 use Rattle.reader.proofs.Words.{pols-snoc}
 use Rattle.terms.specs.Spans.{max_joined}

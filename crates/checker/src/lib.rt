@@ -20,6 +20,7 @@ ghost use Rattle.checker.specs.Runs.{TakenSome, File, Filed, command_lines, NoPo
 ghost use Rattle.lines.specs.Running.{HeadIn};
 
 use heads::{MAX_COMMANDS, MAX_NODES, PolHead, closes, pol_word};
+use lexer::{Fault, Reason};
 use lines::{POL_KIND, behind, run_lines};
 use links::{CLAUSE_WORD, KIND_WORD, PREMISES_WORD, part_of, word_of};
 use marks::{is_statement, unreachable};
@@ -27,7 +28,7 @@ use matching::Answer;
 use nodes::{wide, wide_short};
 use opb_reader::read_both;
 use pol::STACK_WORDS;
-use reader::{COMMAND_WORDS, ID_INDEX, MAX_POLS, MAX_TEXT, NODE_WORDS, TOO_LONG, Whole, read_file};
+use reader::{COMMAND_WORDS, ID_INDEX, MAX_POLS, MAX_TEXT, NODE_WORDS, Unread, read_file};
 use report::{append, write_refusal, write_report};
 use steps::check_step;
 use sums::{ENTRIES, SLOTS};
@@ -181,7 +182,6 @@ fn push_holds(
         PolHead::Saturate(_) => true,
         PolHead::Times(_, _, _) => true,
         PolHead::Over(_, _, _) => true,
-        PolHead::NoWord(_, _) => true,
     }
 }
 
@@ -192,12 +192,15 @@ fn pushes_hold(text: &[u8], commands: &[u16], all: usize, k: usize, marks: &[boo
 {
     let mut i = text.len() - wide_short(commands[2 * k + 1]);
     loop {
-        let head = pol_word(text, i);
+        let Ok(head) = pol_word(text, i) else {
+            // no word stands here: the reader found one
+            return true;
+        };
         if !push_holds(text, commands, all, k, head, marks) {
             return false;
         }
         i = behind(head);
-        if closes(text, i) != 0 {
+        if closes(text, i).is_some() {
             return true;
         }
     }
@@ -421,14 +424,22 @@ fn report_text(text: &[u8], nodes: &mut [u32], commands: &mut [u16], report: &mu
     ensures { Wrote report.old 0 (report_of text.now) report.new result }
 {
     match read_file(text, nodes, commands) {
-        Whole::All(n, used, children, pols) => {
-            if pols == 0 {
-                return report_plain(text, nodes, commands, n, report);
+        Ok(read) => {
+            if read.pols == 0 {
+                return report_plain(text, nodes, commands, read.commands, report);
             }
-            report_pols(text, nodes, commands, n, used, children, report)
+            report_pols(
+                text,
+                nodes,
+                commands,
+                read.commands,
+                read.nodes,
+                read.children,
+                report,
+            )
         }
-        Whole::Refused(number, byte) => write_refusal(report, number, byte),
-        Whole::Small => 0,
+        Err(Unread::Refused(Fault(reason, byte))) => write_refusal(report, u8::from(reason), byte),
+        Err(Unread::Small) => 0,
     }
 }
 
@@ -479,14 +490,21 @@ fn report_joined(
     ensures { Wrote report.old 0 (report_both opb.now text.now) report.new result }
 {
     match read_both(opb, text, string, nodes, commands) {
-        Whole::All(n, used, children, pols) => {
-            if pols == 0 {
-                return report_plain(string, nodes, commands, n, report);
+        Ok(read) => {
+            if read.pols == 0 {
+                return report_plain(string, nodes, commands, read.commands, report);
             }
-            report_pols(string, nodes, commands, n, used, children, report)
+            report_pols(
+                string,
+                nodes,
+                commands,
+                read.commands,
+                read.nodes,
+                read.children,
+                report,
+            )
         }
-        Whole::Refused(number, byte) => write_refusal(report, number, byte),
-        Whole::Small => 0,
+        Err(Fault(reason, byte)) => write_refusal(report, u8::from(reason), byte),
     }
 }
 
@@ -502,7 +520,7 @@ fn report_both(
     ensures { Wrote report.old 0 (report_both opb.now text.now) report.new result }
 {
     if MAX_TEXT < opb.len() {
-        return write_refusal(report, TOO_LONG, MAX_TEXT);
+        return write_refusal(report, u8::from(Reason::TooLong), MAX_TEXT);
     }
     let mut string = [0u8; JOINED_BYTES];
     let size = join(&mut string, opb, text);

@@ -13,12 +13,15 @@ use Rattle.calculus.specs.PolGrammar.{on_factor, named_word, on_word, word_at}
 use Rattle.calculus.specs.Terms.{same_name}
 use Rattle.calculus.specs.Tokens.{judged, token_at}
 use Rattle.lexer.specs.Tokens.{token_of, Placed, NegatesIs}
+use Rattle.std.specs.Prelude.{Result, Ok, Err}
+use Rattle.lexer.specs.declared.Fault.{Fault}
+use Rattle.lexer.specs.declared.Reason.TheVariants.{BadWord, Grammar}
 use Rattle.lexer.specs.declared.Token.{Token}
 use Rattle.lexer.specs.declared.Token.TheVariants.{Op, Num, Name, Tilde}
 use Rattle.lexer.proofs.Bytes.{lengths_differ}
 use Rattle.heads.specs.PolHeads.{pol_word_of, PolWordIs, PolHeadIn, NamedIs, NamedIn, FactorIs, FactorIn}
 use Rattle.heads.specs.declared.PolHead.{PolHead}
-use Rattle.heads.specs.declared.PolHead.TheVariants.{Plain, Negated, Add, Saturate, Times, Over, NoWord}
+use Rattle.heads.specs.declared.PolHead.TheVariants.{Plain, Negated, Add, Saturate, Times, Over}
 
 -- ---- a name of one byte
 module _ (s : List ℕ) (f t b : ℕ) (h : f < t) (l : t ≤ length s) where
@@ -34,16 +37,16 @@ module _ (s : List ℕ) (f t b : ℕ) (h : f < t) (l : t ≤ length s) where
 
 -- ---- the word that a name is
 module _ (s : List ℕ) (p t : ℕ) where
-  pub named-d : true ≡ same_name (100 ∷ []) (slice p t s) → NamedIs s p t (NoWord 6 p)
+  pub named-d : true ≡ same_name (100 ∷ []) (slice p t s) → NamedIs s p t (Err (Grammar, p))
   unfolding pol_word_of named_word
   named-d e = λ above n. rw (← e)
 
   module _ (d : false ≡ same_name (100 ∷ []) (slice p t s)) where
-    pub named-s : true ≡ same_name (115 ∷ []) (slice p t s) → NamedIs s p t (Saturate t)
+    pub named-s : true ≡ same_name (115 ∷ []) (slice p t s) → NamedIs s p t (Ok (Saturate t))
     unfolding pol_word_of named_word
     named-s e = λ above n. rw (← d, ← e)
 
-    pub named-plain : false ≡ same_name (115 ∷ []) (slice p t s) → NamedIs s p t (Plain p t)
+    pub named-plain : false ≡ same_name (115 ∷ []) (slice p t s) → NamedIs s p t (Ok (Plain p t))
     unfolding pol_word_of named_word
     named-plain e = λ above n. rw (← d, ← e)
 
@@ -64,87 +67,87 @@ op-number (suc (suc (suc (suc (suc (suc (suc (suc (suc n))))))))) h = let z : �
 op-other : (j k : ℕ) → k < 9 → (k ≡ j → ⊥) → eqb j (op_num (op_of k)) ≡ false
 op-other j k h n = rw (op-number k h) (ne_eqb j k (λ e. n (sym e)))
 
-module _ (s : List ℕ) (at : ℕ) (r : Token) (q : token_of s r ≡ token_at s at) (here : Placed s at r) where
-  placed-as : (u : Token) → r ≡ u → Placed s at u
+module _ (s : List ℕ) (at : ℕ) (r : Result Token Fault) (q : token_of s r ≡ token_at s at) (here : Placed s at r) where
+  placed-as : (u : Result Token Fault) → r ≡ u → Placed s at u
   placed-as u e = subst (Placed s at) e here
 
   -- ---- behind a numeral
   module _ (m : Bool) (v : ℕ) where
-    pub factor-times : (o p t : ℕ) → r ≡ Op o p t → o ≡ 2 → FactorIs s at m v (Times m v t) × FactorIn s at m v (Times m v t)
+    pub factor-times : (o p t : ℕ) → r ≡ Ok (Op o p t) → o ≡ 2 → FactorIs s at m v (Ok (Times m v t)) × FactorIn s at m v (Ok (Times m v t))
     unfolding pol_word_of on_factor token_of op_of
-    factor-times o p t e h = let (a, b, c, d) = placed-as (Op o p t) e in (λ above n. rw (← q, e, h), (refl, refl, omega arith, d))
+    factor-times o p t e h = let (a, b, c, d) = placed-as (Ok (Op o p t)) e in (λ above n. rw (← q, e, h), (refl, refl, omega arith, d))
 
-    pub factor-operator : (o p t : ℕ) → r ≡ Op o p t → (o ≡ 2 → ⊥) → FactorIs s at m v (NoWord 6 p)
+    pub factor-operator : (o p t : ℕ) → r ≡ Ok (Op o p t) → (o ≡ 2 → ⊥) → FactorIs s at m v (Err (Grammar, p))
     unfolding pol_word_of on_factor token_of
-    factor-operator o p t e h = let k = (placed-as (Op o p t) e).0 in λ above n. rw (← q, e, op-other 2 o k h)
+    factor-operator o p t e h = let k = (placed-as (Ok (Op o p t)) e).0 in λ above n. rw (← q, e, op-other 2 o k h)
 
-    pub factor_d : (p t : ℕ) → r ≡ Name p t → true ≡ same_name (100 ∷ []) (slice p t s) → FactorIs s at m v (Over m v t) × FactorIn s at m v (Over m v t)
+    pub factor_d : (p t : ℕ) → r ≡ Ok (Name p t) → true ≡ same_name (100 ∷ []) (slice p t s) → FactorIs s at m v (Ok (Over m v t)) × FactorIn s at m v (Ok (Over m v t))
     unfolding pol_word_of on_factor token_of
-    factor_d p t e h = let (a, b, c, d) = placed-as (Name p t) e in (λ above n. rw (← q, e, ← h), (refl, refl, omega arith, d))
+    factor_d p t e h = let (a, b, c, d) = placed-as (Ok (Name p t)) e in (λ above n. rw (← q, e, ← h), (refl, refl, omega arith, d))
 
-    pub factor-name : (p t : ℕ) → r ≡ Name p t → false ≡ same_name (100 ∷ []) (slice p t s) → FactorIs s at m v (NoWord 6 p)
+    pub factor-name : (p t : ℕ) → r ≡ Ok (Name p t) → false ≡ same_name (100 ∷ []) (slice p t s) → FactorIs s at m v (Err (Grammar, p))
     unfolding pol_word_of on_factor token_of
     factor-name p t e h = λ above n. rw (← q, e, ← h)
 
-    pub factor_tilde : (p t : ℕ) → r ≡ Tilde p t → (c : Bool) → NegatesIs s p t c → c ≡ true → FactorIs s at m v (NoWord 6 p)
+    pub factor_tilde : (p t : ℕ) → r ≡ Ok (Tilde p t) → (c : Bool) → NegatesIs s p t c → c ≡ true → FactorIs s at m v (Err (Grammar, p))
     unfolding pol_word_of on_factor token_of judged
     factor_tilde p t e c k h = let a = (subst (NegatesIs s p t) h k).0 in λ above n. rw (← q, e, a)
 
-    pub factor-bad : (p t : ℕ) → r ≡ Tilde p t → (c : Bool) → NegatesIs s p t c → c ≡ false → FactorIs s at m v (NoWord 5 p)
+    pub factor-bad : (p t : ℕ) → r ≡ Ok (Tilde p t) → (c : Bool) → NegatesIs s p t c → c ≡ false → FactorIs s at m v (Err (BadWord, p))
     unfolding pol_word_of on_factor token_of judged
     factor-bad p t e c k h = let a = subst (NegatesIs s p t) h k in λ above n. rw (← q, e, a)
 
   -- ---- a word
-  pub word-add : (o p t : ℕ) → r ≡ Op o p t → o ≡ 0 → PolWordIs s at (Add t) × PolHeadIn s at (Add t)
+  pub word-add : (o p t : ℕ) → r ≡ Ok (Op o p t) → o ≡ 0 → PolWordIs s at (Ok (Add t)) × PolHeadIn s at (Ok (Add t))
   unfolding pol_word_of word_at on_word token_of op_of
-  word-add o p t e h = let (a, b, c, d) = placed-as (Op o p t) e in (λ above n. rw (← q, e, h), (omega arith, d))
+  word-add o p t e h = let (a, b, c, d) = placed-as (Ok (Op o p t)) e in (λ above n. rw (← q, e, h), (omega arith, d))
 
-  pub word-operator : (o p t : ℕ) → r ≡ Op o p t → (o ≡ 0 → ⊥) → PolWordIs s at (NoWord 6 p)
+  pub word-operator : (o p t : ℕ) → r ≡ Ok (Op o p t) → (o ≡ 0 → ⊥) → PolWordIs s at (Err (Grammar, p))
   unfolding pol_word_of word_at on_word token_of
-  word-operator o p t e h = let k = (placed-as (Op o p t) e).0 in λ above n. rw (← q, e, op-other 0 o k h)
+  word-operator o p t e h = let k = (placed-as (Ok (Op o p t)) e).0 in λ above n. rw (← q, e, op-other 0 o k h)
 
-  pub word_number : (m : Bool) (v p t : ℕ) → r ≡ Num m v p t → (f : PolHead) → FactorIs s t m v f → FactorIn s t m v f → PolWordIs s at f × PolHeadIn s at f
+  pub word_number : (m : Bool) (v p t : ℕ) → r ≡ Ok (Num m v p t) → (f : Result PolHead Fault) → FactorIs s t m v f → FactorIn s t m v f → PolWordIs s at f × PolHeadIn s at f
   unfolding word_at on_word token_of
   word_number m v p t e f i k = (λ above n. i above n ∙ rw (← q, e), go f k)
     where
-      go : (f : PolHead) → FactorIn s t m v f → PolHeadIn s at f
-      go (Plain a b) k = absurd k
-      go (Negated a b) k = absurd k
-      go (Add b) k = absurd k
-      go (Saturate b) k = absurd k
-      go (Times j w b) (x, y, z, u) = let (c, d, g, h, l) = placed-as (Num m v p t) e in (rw y c, λ g. rw y (d (sym x ∙ g)), omega arith, u)
-      go (Over j w b) (x, y, z, u) = let (c, d, g, h, l) = placed-as (Num m v p t) e in (rw y c, λ g. rw y (d (sym x ∙ g)), omega arith, u)
-      go (NoWord j b) k = k
+      go : (f : Result PolHead Fault) → FactorIn s t m v f → PolHeadIn s at f
+      go (Ok (Plain a b)) k = absurd k
+      go (Ok (Negated a b)) k = absurd k
+      go (Ok (Add b)) k = absurd k
+      go (Ok (Saturate b)) k = absurd k
+      go (Ok (Times j w b)) (x, y, z, u) = let (c, d, g, h, l) = placed-as (Ok (Num m v p t)) e in (rw y c, λ g. rw y (d (sym x ∙ g)), omega arith, u)
+      go (Ok (Over j w b)) (x, y, z, u) = let (c, d, g, h, l) = placed-as (Ok (Num m v p t)) e in (rw y c, λ g. rw y (d (sym x ∙ g)), omega arith, u)
+      go (Err j) k = k
 
-  pub word-named : (p t : ℕ) → r ≡ Name p t → (f : PolHead) → NamedIs s p t f → NamedIn p t f → PolWordIs s at f × PolHeadIn s at f
+  pub word-named : (p t : ℕ) → r ≡ Ok (Name p t) → (f : Result PolHead Fault) → NamedIs s p t f → NamedIn p t f → PolWordIs s at f × PolHeadIn s at f
   unfolding word_at on_word token_of
   word-named p t e f i k = (λ above n. i above n ∙ rw (← q, e), go f k)
     where
-      go : (f : PolHead) → NamedIn p t f → PolHeadIn s at f
-      go (Plain a b) (x, y) = let (c, d, g, h) = placed-as (Name p t) e in rw (x, y) (d, g, h, c)
-      go (Negated a b) k = absurd k
-      go (Add b) k = absurd k
-      go (Saturate b) k = let (c, d, g, h) = placed-as (Name p t) e in rw k (omega arith, h)
-      go (Times j w b) k = absurd k
-      go (Over j w b) k = absurd k
-      go (NoWord j b) k = k
+      go : (f : Result PolHead Fault) → NamedIn p t f → PolHeadIn s at f
+      go (Ok (Plain a b)) (x, y) = let (c, d, g, h) = placed-as (Ok (Name p t)) e in rw (x, y) (d, g, h, c)
+      go (Ok (Negated a b)) k = absurd k
+      go (Ok (Add b)) k = absurd k
+      go (Ok (Saturate b)) k = let (c, d, g, h) = placed-as (Ok (Name p t)) e in rw k (omega arith, h)
+      go (Ok (Times j w b)) k = absurd k
+      go (Ok (Over j w b)) k = absurd k
+      go (Err j) k = k
 
-  pub word-negated : (p t : ℕ) → r ≡ Tilde p t → (c : Bool) → NegatesIs s p t c → c ≡ true → PolWordIs s at (Negated (p + 1) t) × PolHeadIn s at (Negated (p + 1) t)
+  pub word-negated : (p t : ℕ) → r ≡ Ok (Tilde p t) → (c : Bool) → NegatesIs s p t c → c ≡ true → PolWordIs s at (Ok (Negated (p + 1) t)) × PolHeadIn s at (Ok (Negated (p + 1) t))
   unfolding pol_word_of word_at on_word token_of judged
   word-negated p t e c k h =
       let (a, b, f) = subst (NegatesIs s p t) h k in
-      let (g, i, j) = placed-as (Tilde p t) e in
+      let (g, i, j) = placed-as (Ok (Tilde p t)) e in
       (λ above n. rw (← q, e, a), (omega arith, b, j, f))
 
-  pub word-bad : (p t : ℕ) → r ≡ Tilde p t → (c : Bool) → NegatesIs s p t c → c ≡ false → PolWordIs s at (NoWord 5 p)
+  pub word-bad : (p t : ℕ) → r ≡ Ok (Tilde p t) → (c : Bool) → NegatesIs s p t c → c ≡ false → PolWordIs s at (Err (BadWord, p))
   unfolding pol_word_of word_at on_word token_of judged
   word-bad p t e c k h = let a = subst (NegatesIs s p t) h k in λ above n. rw (← q, e, a)
 
-  pub tilde_in : (p t : ℕ) → r ≡ Tilde p t → (p < t) × (t ≤ length s)
-  tilde_in p t e = let (a, b, c) = placed-as (Tilde p t) e in (b, c)
+  pub tilde_in : (p t : ℕ) → r ≡ Ok (Tilde p t) → (p < t) × (t ≤ length s)
+  tilde_in p t e = let (a, b, c) = placed-as (Ok (Tilde p t)) e in (b, c)
 
-  pub name_in : (p t : ℕ) → r ≡ Name p t → (p < t) × (t ≤ length s)
-  name_in p t e = let (a, b, c, d) = placed-as (Name p t) e in (c, d)
+  pub name_in : (p t : ℕ) → r ≡ Ok (Name p t) → (p < t) × (t ≤ length s)
+  name_in p t e = let (a, b, c, d) = placed-as (Ok (Name p t)) e in (c, d)
 
-  pub number_in : (m : Bool) (v p t : ℕ) → r ≡ Num m v p t → t ≤ length s
-  number_in m v p t e = let (a, b, c, d, f) = placed-as (Num m v p t) e in f
+  pub number_in : (m : Bool) (v p t : ℕ) → r ≡ Ok (Num m v p t) → t ≤ length s
+  number_in m v p t e = let (a, b, c, d, f) = placed-as (Ok (Num m v p t)) e in f

@@ -2,7 +2,7 @@
 use mathlib.Core.Path.{◌≡◌, refl, sym, subst, ap, ◌∙◌}
 use mathlib.Core.Bool.{Bool, true, false, cond}
 use mathlib.Core.List.{List, ◌∷◌, map}
-use Prim.Native.Nat.{ℕ, suc, ◌+◌, ◌-◌, ◌≤◌, ◌<◌}
+use Prim.Native.Nat.{ℕ, ◌+◌, ◌-◌, ◌≤◌, ◌<◌}
 use native.Mathlib.Decide.{dec_lt}
 use native.Mathlib.Omega.{arith}
 use borrow.Author.Tests.{lt-ltb, le-ltb}
@@ -31,7 +31,7 @@ use Rattle.matching.proofs.Matches.{key-variable, key-literal}
 use Rattle.matching.proofs.Places.{coefficient-at, key-at}
 use Rattle.heads.specs.PolHeads.{pol_word_of}
 use Rattle.heads.specs.declared.PolHead.{PolHead}
-use Rattle.heads.specs.declared.PolHead.TheVariants.{Plain, Negated, Add, Saturate, Times, Over, NoWord}
+use Rattle.heads.specs.declared.PolHead.TheVariants.{Plain, Negated, Add, Saturate, Times, Over}
 use Rattle.sums.specs.Lists.{res_of}
 use Rattle.sums.specs.Places.{left_at}
 use Rattle.pol.specs.Stack.{stack_words, window, count_of, stack_of, Standing, Stack, StackUnder, WorkedIs, TopIs}
@@ -42,7 +42,7 @@ use Rattle.pol.proofs.Working.{stack-one}
 use Rattle.reader.specs.Commands.{clause_word, part_at, above_in}
 use Rattle.reader.specs.Reading.{Ids}
 use Rattle.lines.specs.Running.{Above, held_in, AllHeld, Running, Longer, literal_word, LiteralHead, WordDone, LiteralDone}
-use Rattle.lines.proofs.Words.{off-got, got-is}
+use Rattle.lines.proofs.Words.{got-is}
 use Rattle.lines.proofs.Holding.{or_right, push-holds, two-holds, cap-holds, times-holds, over-holds, axiom-holds}
 use Rattle.lines.proofs.Growing.{stack-terms, grown-stack, grown-rooms, rooms_same, under_more, set-window}
 
@@ -79,11 +79,6 @@ unfolding pol_step literal_word
 literal_pushes at true x S = refl
 literal_pushes at false x S = refl
 
--- where there is a word, there is not none
-no_word : (above : List ℕ → Bool) (s : List ℕ) {head : PolHead} {x : PolWord} {to : ℕ} → pol_word_of above s 0 head ≡ got x to 0 → (e p : ℕ) → head ≡ NoWord e p → ⊥
-unfolding pol_word_of
-no_word above s {head} h e p q = off-got (sym (ap (pol_word_of above s 0) q) ∙ h)
-
 -- what is on the stack stays on it
 stays : (f : ℕ → Term) (S S' : List Inequality) → ((k : Lit) → T (held_in k S) → T (held_in k S')) → (n m : ℕ) → ((k : ℕ) → n ≤ k → k < m → (b : Bool) × T (held_in (record { variable = f k; negated = b }) S))
     → (k : ℕ) → n ≤ k → k < m → (b : Bool) × T (held_in (record { variable = f k; negated = b }) S')
@@ -114,7 +109,6 @@ module _ {s t y : List ℕ} {cs : List ℤ} {ks sl : List ℕ} {m c₀ d : ℕ} 
     unfolding pol_word_of pol_step
     add_done {w} {k} {next} {e} {r} W = record {
       is = λ at C x to n q. rw (got-is q) (W.is here R.under);
-      some = λ z. no_word (above_in s w k) s {head = Add next} refl;
       longer = longer-none R.names;
       held = λ z n. stays (decode s t) (stack_of (decode s t) cs ks d) (stack_of (decode s t) ds ls e) (λ k. two-holds k (stack_of (decode s t) cs ks d) (done z (W.is here R.under))) n m;
       running = goes_on W.stack (λ z. W.under z m R.under);
@@ -126,7 +120,6 @@ module _ {s t y : List ℕ} {cs : List ℤ} {ks sl : List ℕ} {m c₀ d : ℕ} 
       unfolding pol_word_of pol_step above_in
       line_done W = record {
         is = λ at C x next n q. rw (got-is (ap (λ (b : Bool). cond b (got (line_word (slice from to s)) to n) (got (plain_word (slice from to s)) to n)) (sym known) ∙ q), id-is, C j before) (W.is here R.under (A.under j before));
-        some = λ z. no_word (above_in s w k) s {head = Plain from to} {x = line_word (slice from to s)} {to = to} (rw known);
         longer = longer-none R.names;
         held = λ z n. stays (decode s t) (stack_of (decode s t) cs ks d) (stack_of (decode s t) ds ls (d + 1)) (λ i. push-holds i (stack_of (decode s t) cs ks d) (line_inequality (map (decode s t) (part_at t w j clause_word))) (done z (W.is here R.under (A.under j before)))) n m;
         running = goes_on W.stack (λ z. W.under z m R.under (A.under j before));
@@ -143,7 +136,6 @@ module _ {s t y : List ℕ} {cs : List ℤ} {ks sl : List ℕ} {m c₀ d : ℕ} 
         → TopIs (on_top f) cs ks d ds r → WordDone s t t w y k head cs ks m d ds ks sl (record { number = r; nodes = m; entries = d })
     topping head word f keeps h g W = record {
       is = λ at C x to n q. rw (got-is (sym (h n) ∙ q)) (g at (stack_of (decode s t) cs ks d) ∙ (W t R.stack).is here R.under);
-      some = λ z. no_word (above_in s w k) s (h 0);
       longer = longer-none R.names;
       held = λ z n. stays (decode s t) (stack_of (decode s t) cs ks d) (stack_of (decode s t) ds ks d) (λ k. keeps k (stack_of (decode s t) cs ks d) (stack_of (decode s t) ds ks d) (done z ((W t R.stack).is here R.under))) n m;
       running = goes_on a refl refl (W t R.stack).stack (λ z. (W t R.stack).under z m R.under);
@@ -161,16 +153,6 @@ module _ {s t y : List ℕ} {cs : List ℤ} {ks sl : List ℕ} {m c₀ d : ℕ} 
     unfolding pol_word_of pol_step
     over_done {b} {v} = topping (Over b v next) (over_word (signed b v)) (divided (signed b v)) (λ k S S'. over-holds k (signed b v) S) (λ n. refl) (λ at S. refl)
 
-  pub none_done : {w : List ℕ} {k e p n : ℕ} → WordDone s t t w y k (NoWord e p) cs ks m d cs ks sl (record { number = suc n; nodes = m; entries = d })
-  unfolding pol_word_of
-  none_done = record {
-    is = λ at C x to n q. off-got q;
-    longer = longer-none R.names;
-    some = λ z. let f : ⊥ = omega arith in absurd f;
-    held = λ z. let f : ⊥ = omega arith in absurd f;
-    running = λ c T z. let f : ⊥ = omega arith in absurd f;
-  }
-
   -- ---- the axiom of a literal
   -- on a full stack
   pub literal_full : (b : Bool) (x : List ℕ) → max_stack ≤ d → LiteralDone s t t y b x cs ks m d cs ks sl (record { number = 52; nodes = m; entries = d })
@@ -178,7 +160,6 @@ module _ {s t y : List ℕ} {cs : List ℤ} {ks sl : List ℕ} {m c₀ d : ℕ} 
   literal_full b x full w k to head h = record {
     is = λ at C x' next n q. rw (got-is (sym (h n) ∙ q)) (literal_pushes at b x (stack_of (decode s t) cs ks d) ∙ push-full (decode s t) cs ks d (ok (axiom_of x b)) full);
     longer = longer-none R.names;
-    some = λ z. let f : ⊥ = omega arith in absurd f;
     held = λ z. let f : ⊥ = omega arith in absurd f;
     running = λ c T z. let f : ⊥ = omega arith in absurd f;
   }
@@ -284,7 +265,6 @@ module _ {s t y : List ℕ} {cs : List ℤ} {ks sl : List ℕ} {m c₀ d : ℕ} 
     unfolding res_of
     literal_done w k to head h = record {
       is = λ at C x' next n q. rw (got-is (sym (h n) ∙ q)) (literal_pushes at b x (stack_of (decode s t) cs ks d) ∙ pushes);
-      some = λ z. no_word (above_in s w k) s (h 0);
       longer = longer;
       held = λ e. literal-held;
       running = λ c T e. goes c T;

@@ -1,7 +1,8 @@
 -- The words of a pol line, one after the other, over a table that grows.
 use mathlib.Core.Path.{◌≡◌, refl, sym, ap, ◌∙◌}
-use mathlib.Core.Bool.{Bool, true, false}
+use mathlib.Core.Bool.{Bool, true, false, false≢true}
 use mathlib.Core.List.{List, [], ◌∷◌, ◌++◌}
+use mathlib.Core.Logic.{◌⊎◌, inl, inr}
 use Prim.Native.Nat.{ℕ, zero, suc, ◌+◌, ◌≤◌, ◌<◌}
 use native.Mathlib.Decide.{dec_lt}
 use native.Mathlib.Omega.{arith}
@@ -9,7 +10,7 @@ use lib.IntN.{ℤ}
 use lib.ListN.{length}
 use lib.Seq.{slice}
 use Rattle.calculus.specs.Commands.{enough}
-use Rattle.calculus.specs.Grammar.{got, off, close_at}
+use Rattle.calculus.specs.Grammar.{got, close_at}
 use Rattle.calculus.specs.Pol.{max_stack, pol_steps, last_entry, pol_result}
 use Rattle.calculus.specs.PolGrammar.{words_at}
 use Rattle.calculus.specs.Terms.{Term, PolWord, line_word, plain_word, negated_word, plus-word, saturate-word, times-word, over_word}
@@ -23,7 +24,10 @@ use Rattle.reader.specs.Commands.{clause_word, word_at as command_word, part_at,
 use Rattle.links.specs.Steps.{AllUnder}
 use Rattle.heads.specs.PolHeads.{pol_word_of, PolWordIs, PolHeadIn}
 use Rattle.heads.specs.declared.PolHead.{PolHead}
-use Rattle.heads.specs.declared.PolHead.TheVariants.{Plain, Negated, Add, Saturate, Times, Over, NoWord}
+use Rattle.heads.specs.declared.PolHead.TheVariants.{Plain, Negated, Add, Saturate, Times, Over}
+use Rattle.lexer.specs.declared.Fault.{Fault}
+use Rattle.std.specs.Prelude.{Option, Some, None, is_some, Ok, Err}
+use Rattle.heads.specs.Heads.{past_of, PastIn}
 use Rattle.sums.specs.Lists.{res_of}
 use Rattle.pol.specs.Stack.{window, inequality_of, stack_of}
 use Rattle.lines.specs.declared.Worked.{Worked}
@@ -33,42 +37,61 @@ use Rattle.lines.proofs.Rooming.{names-few}
 use Rattle.lines.proofs.Words.{Ahead, Behind, ahead-start, ahead-word, ahead-behind, behind-closed, behind_more, steps-more, steps_failed, steps-ended}
 
 -- ---- heads
--- a head is a word, whatever is counted before it, or none
-pub by_head : {A : Type 0} (above : List ℕ → Bool) (s : List ℕ) (head : PolHead) → ((e p : ℕ) → ((n : ℕ) → pol_word_of above s n head ≡ off e p) → A) → ((x : PolWord) → ((n : ℕ) → pol_word_of above s n head ≡ got x (behind_of head) n) → A) → A
+-- a head is a word, whatever is counted before it
+pub by_head : {A : Type 0} (above : List ℕ → Bool) (s : List ℕ) (head : PolHead) → ((x : PolWord) → ((n : ℕ) → pol_word_of above s n head ≡ got x (behind_of head) n) → A) → A
 unfolding pol_word_of
-by_head {A} above s (Plain p t) none some = go (above (slice p t s)) refl
+by_head {A} above s (Plain p t) some = go (above (slice p t s)) refl
   where
     go : (b : Bool) → above (slice p t s) ≡ b → A
     go true e = some (line_word (slice p t s)) (λ n. rw e)
     go false e = some (plain_word (slice p t s)) (λ n. rw e)
-by_head above s (Negated p t) none some = some (negated_word (slice p t s)) (λ n. refl)
-by_head above s (Add t) none some = some plus-word (λ n. refl)
-by_head above s (Saturate t) none some = some saturate-word (λ n. refl)
-by_head above s (Times m v t) none some = some (times-word (signed m v)) (λ n. refl)
-by_head above s (Over m v t) none some = some (over_word (signed m v)) (λ n. refl)
-by_head above s (NoWord e p) none some = none e p (λ n. refl)
+by_head above s (Negated p t) some = some (negated_word (slice p t s)) (λ n. refl)
+by_head above s (Add t) some = some plus-word (λ n. refl)
+by_head above s (Saturate t) some = some saturate-word (λ n. refl)
+by_head above s (Times m v t) some = some (times-word (signed m v)) (λ n. refl)
+by_head above s (Over m v t) some = some (over_word (signed m v)) (λ n. refl)
+
+-- the end of a head of this kind
+pub behind-plain : (head : PolHead) (t : ℕ) → ((p : ℕ) × (head ≡ Plain p t)) ⊎ ((p : ℕ) × (head ≡ Negated p t)) → t ≡ behind_of head
+behind-plain head t (inl (p, e)) = sym (ap behind_of e)
+behind-plain head t (inr (p, e)) = sym (ap behind_of e)
+
+pub behind-operator : (head : PolHead) (t : ℕ) → (head ≡ Add t) ⊎ (head ≡ Saturate t) → t ≡ behind_of head
+behind-operator head t (inl e) = sym (ap behind_of e)
+behind-operator head t (inr e) = sym (ap behind_of e)
+
+pub behind-factor : (head : PolHead) (t : ℕ) → ((m : Bool) × (v : ℕ) × (head ≡ Times m v t)) ⊎ ((m : Bool) × (v : ℕ) × (head ≡ Over m v t)) → t ≡ behind_of head
+behind-factor head t (inl (m, v, e)) = sym (ap behind_of e)
+behind-factor head t (inr (m, v, e)) = sym (ap behind_of e)
 
 -- a head's end lies in the text
-pub head-inside : (s : List ℕ) (at : ℕ) (head : PolHead) → PolHeadIn s at head → behind_of head ≤ length s
+pub head-inside : (s : List ℕ) (at : ℕ) (head : PolHead) → PolHeadIn s at (Ok head) → behind_of head ≤ length s
 head-inside s at (Plain p t) h = h.2
 head-inside s at (Negated p t) h = h.2
 head-inside s at (Add t) h = h.1
 head-inside s at (Saturate t) h = h.1
 head-inside s at (Times m v t) h = h.3
 head-inside s at (Over m v t) h = h.3
-head-inside s at (NoWord e p) h = omega arith
 
 -- a word's behind its beginning
-pub head-later : (s : List ℕ) (at : ℕ) (head : PolHead) → PolHeadIn s at head → ((e p : ℕ) → head ≡ NoWord e p → ⊥) → at < behind_of head
-head-later s at (Plain p t) h f = omega (arith, h.0, h.1)
-head-later s at (Negated p t) h f = omega (arith, h.0, h.1)
-head-later s at (Add t) h f = h.0
-head-later s at (Saturate t) h f = h.0
-head-later s at (Times m v t) h f = h.2
-head-later s at (Over m v t) h f = h.2
-head-later s at (NoWord e p) h f = absurd (f e p refl)
+pub head-later : (s : List ℕ) (at : ℕ) (head : PolHead) → PolHeadIn s at (Ok head) → at < behind_of head
+head-later s at (Plain p t) h = omega (arith, h.0, h.1)
+head-later s at (Negated p t) h = omega (arith, h.0, h.1)
+head-later s at (Add t) h = h.0
+head-later s at (Saturate t) h = h.0
+head-later s at (Times m v t) h = h.2
+head-later s at (Over m v t) h = h.2
 
 -- ---- the end
+-- past a closing bracket, or nothing
+pub closed-yes : (s : List ℕ) (at : ℕ) (r : Option ℕ) → PastIn s at r → is_some r ≡ true → past_of r ≡ 0 → ⊥
+closed-yes s at (Some t) h e z = omega (arith, h.0, z)
+closed-yes s at None h e z = false≢true e
+
+pub closed-no : (r : Option ℕ) → is_some r ≡ false → past_of r ≡ 0
+closed-no (Some t) e = absurd (false≢true (sym e))
+closed-no None e = refl
+
 -- another number of entries than one
 not-one : (f : ℕ → Term) (cs : List ℤ) (ks : List ℕ) (d : ℕ) → (d ≡ 1 → ⊥) → last_entry (stack_of f cs ks d) ≡ bad 52
 unfolding stack_of last_entry
@@ -150,7 +173,15 @@ module _ {s t₀ t w y : List ℕ} {cs : List ℤ} {ks sl : List ℕ} {all k fro
   pub pass-room : d < max_stack → m < capacity t
   pass-room h = omega (arith, P.room, names-few P.going.running P.longer.first P.held P.up)
 
-  module _ {head : PolHead} (H : PolWordIs s i head) {u z : List ℕ} {ds : List ℤ} {ls tl : List ℕ} {r : Worked} (W : WordDone s t u w z k head cs ks m d ds ls tl r) where
+  -- where no word stands
+  pub pass-none : (fault : Fault) {e : ℕ} → PolWordIs s i (Err fault) → WordsRun s t₀ t w y k from n cs ks (record { number = 52; nodes = m; entries = e })
+  pass-none fault H = record {
+    is = λ at C words e p q. let g = P.read at C words e p q in absurd (ahead-word (above_in s w k) s g.1 (sym (H (above_in s w k) g.1.nodes)));
+    longer = P.longer;
+    stack = λ e. let f : ⊥ = omega arith in absurd f;
+  }
+
+  module _ {head : PolHead} (H : PolWordIs s i (Ok head)) {u z : List ℕ} {ds : List ℤ} {ls tl : List ℕ} {r : Worked} (W : WordDone s t u w z k head cs ks m d ds ls tl r) where
     abbrev above : List ℕ → Bool
     above = above_in s w k
 
@@ -158,7 +189,6 @@ module _ {s t₀ t w y : List ℕ} {cs : List ℤ} {ks sl : List ℕ} {all k fro
     word-here : {B : Type 0} {ws words : List PolWord} → (A : Ahead (above_in s w k) s i ws words) → ((x : PolWord) → ((n : ℕ) → pol_word_of (above_in s w k) s n head ≡ got x (behind_of head) n) → Behind (above_in s w k) s (behind_of head) (ws ++ (x ∷ [])) words → B) → B
     word-here A f =
         by_head (above_in s w k) s head
-        (λ e p q. absurd (ahead-word (above_in s w k) s A (sym (H (above_in s w k) A.nodes) ∙ q A.nodes)))
         (λ x q. f x q (ahead-behind (above_in s w k) s A (sym (H (above_in s w k) A.nodes) ∙ q A.nodes)))
 
     longer : Longer s t₀ u z n r.nodes

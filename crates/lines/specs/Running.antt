@@ -1,5 +1,5 @@
 -- What is known while a pol line runs (02, No. 2), and what its parts answer: word by word, the whole line, all lines of a file.
-use Rattle.std.specs.Prelude.{◌≡◌, Bool, false, cond, ◌||◌, List, [], ◌∷◌, map, ℕ, ◌+◌, ◌≤◌, ◌<◌, T, ℤ, length}
+use Rattle.std.specs.Prelude.{◌≡◌, Ok, Bool, false, cond, ◌||◌, List, [], ◌∷◌, map, ℕ, ◌+◌, ◌≤◌, ◌<◌, T, ℤ, length}
 use Rattle.calculus.specs.Commands.{enough}
 use Rattle.calculus.specs.Entries.{Lit, Inequality}
 use Rattle.calculus.specs.Grammar.{got}
@@ -17,7 +17,7 @@ use Rattle.reader.specs.Reading.{Ids}
 use Rattle.links.specs.Steps.{AllUnder, Clause}
 use Rattle.heads.specs.PolHeads.{pol_word_of, PolHeadIn}
 use Rattle.heads.specs.declared.PolHead.{PolHead}
-use Rattle.heads.specs.declared.PolHead.TheVariants.{Plain, Negated, Add, Saturate, Times, Over, NoWord}
+use Rattle.heads.specs.declared.PolHead.TheVariants.{Plain, Negated, Add, Saturate, Times, Over}
 use Rattle.sums.specs.Lists.{res_of}
 use Rattle.sums.specs.Places.{Rooms}
 use Rattle.pol.specs.Stack.{window, inequality_of, stack_of, Stack, StackUnder}
@@ -76,11 +76,10 @@ literal_word b x = cond b (negated_word x) (plain_word x)
 abbrev pub LiteralHead : (s w : List ℕ) (k : ℕ) (head : PolHead) (b : Bool) (x : List ℕ) (to : ℕ) → Type 0
 LiteralHead s w k head b x to = (n : ℕ) → pol_word_of (above_in s w k) s n head ≡ got (literal_word b x) to n
 
--- a word of the text, or what stands in its place, was done: the machine's answer, and where it is no number the stack goes on
+-- a word of the text was done: the machine's answer, and where it is no number the stack goes on
 pub record WordDone (s t u w y : List ℕ) (k : ℕ) (head : PolHead) (cs : List ℤ) (ks : List ℕ) (m d : ℕ) (ds : List ℤ) (ls tl : List ℕ) (r : Worked) : Type 0 where
   pub is : (at : List ℕ → List Term) → ClausesAre at s t w k → (x : PolWord) (next n : ℕ) → pol_word_of (above_in s w k) s n head ≡ got x next n
       → pol_step at x (stack_of (decode s t) cs ks d) ≡ res_of r.number (stack_of (decode s u) ds ls r.entries)
-  pub some : r.number ≡ 0 → (e p : ℕ) → head ≡ NoWord e p → ⊥
   pub longer : Longer s t u y m r.nodes
   pub held : r.number ≡ 0 → (n : ℕ) → AllHeld (decode s t) cs ks n m d → AllHeld (decode s u) ds ls n r.nodes r.entries
   pub running : (c : ℕ) → Table t m c → r.number ≡ 0 → Running s u y ds ls tl r.nodes c r.entries
@@ -91,7 +90,7 @@ LiteralDone s t u y b x cs ks m d ds ls sl r = (w : List ℕ) (k to : ℕ) (head
 
 -- its parts lie in the text
 abbrev pub HeadIn : List ℕ → PolHead → Type 0
-HeadIn s head = (at : ℕ) × PolHeadIn s at head
+HeadIn s head = (at : ℕ) × PolHeadIn s at (Ok head)
 
 -- the same of a stack that runs with some slots and some child words
 abbrev pub Runs : (s t y : List ℕ) (cs : List ℤ) (ks : List ℕ) (m d : ℕ) → Type 0
@@ -109,7 +108,6 @@ behind_of (Add t) = t
 behind_of (Saturate t) = t
 behind_of (Times m v t) = t
 behind_of (Over m v t) = t
-behind_of (NoWord e p) = 0
 
 -- room for the names that a line can bring: one for each literal on the stack
 abbrev pub max_names : ℕ

@@ -136,11 +136,6 @@ fn run_word(
     ensures { WordDone text.now nodes.old nodes.new commands.now names.new k head coeffs.old keys.old m d coeffs.new keys.new slots.new result }
 {
     match head {
-        PolHead::NoWord(_, _) => Worked {
-            number: MISCOUNTED,
-            nodes: m,
-            entries: d,
-        },
         PolHead::Plain(from, to) => run_name(
             text, nodes, commands, names, coeffs, keys, slots, from, to, all, k, m, d,
         ),
@@ -187,13 +182,9 @@ pub fn behind(head: PolHead) -> usize
     ensures { result ≡ behind_of head }
 {
     match head {
-        PolHead::Plain(_, t) => t,
-        PolHead::Negated(_, t) => t,
-        PolHead::Add(t) => t,
-        PolHead::Saturate(t) => t,
-        PolHead::Times(_, _, t) => t,
-        PolHead::Over(_, _, t) => t,
-        PolHead::NoWord(_, _) => 0,
+        PolHead::Plain(_, t) | PolHead::Negated(_, t) => t,
+        PolHead::Add(t) | PolHead::Saturate(t) => t,
+        PolHead::Times(_, _, t) | PolHead::Over(_, _, t) => t,
     }
 }
 
@@ -218,7 +209,13 @@ fn run_words(
     let mut m = n;
     let mut d = 0;
     loop {
-        let head = pol_word(text, i);
+        let Ok(head) = pol_word(text, i) else {
+            return Worked {
+                number: MISCOUNTED,
+                nodes: m,
+                entries: d,
+            };
+        };
         let word = run_word(
             text, nodes, commands, names, coeffs, keys, slots, head, all, k, m, d,
         );
@@ -232,7 +229,7 @@ fn run_words(
         }
         d = word.entries;
         i = behind(head);
-        if closes(text, i) != 0 {
+        if closes(text, i).is_some() {
             if d != 1 {
                 return Worked {
                     number: MISCOUNTED,

@@ -1,6 +1,7 @@
 -- Laws of blanks and comments outside constraints.
 use mathlib.Core.Path.{◌≡◌, refl, sym, ◌∙◌}
 use mathlib.Core.Bool.{Bool, true, false, not, cond}
+use mathlib.Core.Logic.{◌⊎◌, inl, inr}
 use mathlib.Core.List.{List}
 use Prim.Native.Nat.{ℕ, zero, suc, ◌+◌, ◌-◌, ◌≤◌, ◌<◌}
 use native.Mathlib.Numerals.{add-one}
@@ -12,11 +13,13 @@ use lib.Seq.{drop-cons}
 use Rattle.calculus.specs.Bytes.{is_blank, class_of, unprintable, byte}
 use Rattle.calculus.specs.OpbWords.{Place, first, later, comment, next_place, passed, gap, place_at}
 use Rattle.opb.specs.Tokens.{place_of}
+use Rattle.opb.specs.declared.Place as places
+use Rattle.opb.specs.declared.Place.TheVariants.{First, Later, Comment}
 
 -- ---- the place of a byte
 module _ (s : List ℕ) (at : ℕ) where
-  pub place-start : at ≡ 0 → place_of 0 ≡ place_at s at
-  unfolding place_of place_at
+  pub place-start : at ≡ 0 → place_of First ≡ place_at s at
+  unfolding place_at
   place-start e = rw e
 
   behind : (at ≡ 0 → ⊥) → place_at s at ≡ cond (eqb (get_or s (at - 1) 0) 10) first later
@@ -27,74 +30,51 @@ module _ (s : List ℕ) (at : ℕ) where
       go zero h = absurd (h refl)
       go (suc p) h = let e : suc p - 1 ≡ p = omega arith in rw e
 
-  pub place-line : (at ≡ 0 → ⊥) → get_or s (at - 1) 0 ≡ 10 → place_of 0 ≡ place_at s at
-  unfolding place_of
+  pub place-line : (at ≡ 0 → ⊥) → get_or s (at - 1) 0 ≡ 10 → place_of First ≡ place_at s at
   place-line h e = sym (behind h ∙ rw (eq-eqb _ _ e))
 
-  pub place-later : (at ≡ 0 → ⊥) → (get_or s (at - 1) 0 ≡ 10 → ⊥) → place_of 1 ≡ place_at s at
-  unfolding place_of
+  pub place-later : (at ≡ 0 → ⊥) → (get_or s (at - 1) 0 ≡ 10 → ⊥) → place_of Later ≡ place_at s at
   place-later h e = sym (behind h ∙ rw (ne_eqb _ _ e))
 
--- ---- by the number of a place
-is-comment : (p : ℕ) → 1 < p → place_of p ≡ comment
-unfolding place_of
-is-comment zero h = let z : ⊥ = omega arith in absurd z
-is-comment (suc zero) h = let z : ⊥ = omega arith in absurd z
-is-comment (suc (suc p)) h = refl
-
-is_later : (p : ℕ) → p ≤ 1 → (p ≡ 0 → ⊥) → place_of p ≡ later
-unfolding place_of
-is_later zero h k = absurd (k refl)
-is_later (suc zero) h k = refl
-is_later (suc (suc p)) h k = let z : ⊥ = omega arith in absurd z
-
-module _ (p b : ℕ) where
-  pub comment_passes : (r : Bool) → 1 < p → r ≡ not (eqb (class_of b) unprintable) → r ≡ passed (place_of p) b
+-- ---- by a place
+module _ (p : places.Place) (b : ℕ) where
+  pub comment_passes : (r : Bool) → p ≡ Comment → r ≡ not (eqb (class_of b) unprintable) → r ≡ passed (place_of p) b
   unfolding passed
-  comment_passes r h e = rw (is-comment p h) e
+  comment_passes r h e = rw h e
 
-  pub blank-passes : p ≤ 1 → is_blank b ≡ true → true ≡ passed (place_of p) b
-  unfolding passed place_of
-  blank-passes = go p
-    where
-      go : (p : ℕ) → p ≤ 1 → is_blank b ≡ true → true ≡ passed (place_of p) b
-      go zero h e = rw e
-      go (suc zero) h e = rw e
-      go (suc (suc p)) h e = let z : ⊥ = omega arith in absurd z
+  pub later_passes : (r : Bool) → p ≡ Later → r ≡ is_blank b → r ≡ passed (place_of p) b
+  unfolding passed
+  later_passes r h e = rw h e
 
-  pub star_passes : (r : Bool) → p ≡ 0 → is_blank b ≡ false → r ≡ eqb b (byte "*") → r ≡ passed (place_of p) b
-  unfolding passed place_of
+  pub blank-passes : p ≡ First → is_blank b ≡ true → true ≡ passed (place_of p) b
+  unfolding passed
+  blank-passes h e = rw (h, e)
+
+  pub star_passes : (r : Bool) → p ≡ First → is_blank b ≡ false → r ≡ eqb b (byte "*") → r ≡ passed (place_of p) b
+  unfolding passed
   star_passes r h e k = rw (h, e) k
 
-  pub none_passes : p ≤ 1 → (p ≡ 0 → ⊥) → is_blank b ≡ false → false ≡ passed (place_of p) b
-  unfolding passed
-  none_passes h k e = rw (is_later p h k, e)
-
-  pub next-line : b ≡ 10 → place_of 0 ≡ next_place (place_of p) b
-  unfolding next_place place_of
+  pub next-line : b ≡ 10 → place_of First ≡ next_place (place_of p) b
+  unfolding next_place
   next-line e = go (place_of p)
     where
-      go : (c : Place) → place_of 0 ≡ next_place c b
+      go : (c : Place) → place_of First ≡ next_place c b
       go first = rw (eq-eqb b 10 e)
       go later = rw (eq-eqb b 10 e)
       go comment = rw (eq-eqb b 10 e)
 
-  pub next-comment : (b ≡ 10 → ⊥) → p ≡ 0 → b ≡ byte "*" → place_of 2 ≡ next_place (place_of p) b
-  unfolding next_place place_of
+  pub next-comment : (b ≡ 10 → ⊥) → p ≡ First → b ≡ byte "*" → place_of Comment ≡ next_place (place_of p) b
+  unfolding next_place
   next-comment n h e = rw (h, e)
 
-  pub next-later : (b ≡ 10 → ⊥) → p ≡ 0 → (b ≡ byte "*" → ⊥) → place_of 1 ≡ next_place (place_of p) b
-  unfolding next_place place_of
+  pub next-later : (b ≡ 10 → ⊥) → p ≡ First → (b ≡ byte "*" → ⊥) → place_of Later ≡ next_place (place_of p) b
+  unfolding next_place
   next-later n h e = rw (h, ne_eqb b 10 n, ne_eqb b (byte "*") e)
 
-  pub next-same : (b ≡ 10 → ⊥) → (p ≡ 0 → ⊥) → place_of p ≡ next_place (place_of p) b
-  unfolding next_place place_of
-  next-same n = go p
-    where
-      go : (p : ℕ) → (p ≡ 0 → ⊥) → place_of p ≡ next_place (place_of p) b
-      go zero h = absurd (h refl)
-      go (suc zero) h = rw (ne_eqb b 10 n)
-      go (suc (suc p)) h = rw (ne_eqb b 10 n)
+  pub next-same : (b ≡ 10 → ⊥) → (p ≡ Later) ⊎ (p ≡ Comment) → place_of p ≡ next_place (place_of p) b
+  unfolding next_place
+  next-same n (inl h) = rw (h, ne_eqb b 10 n)
+  next-same n (inr h) = rw (h, ne_eqb b 10 n)
 
 -- ---- the run
 gap-end : (c : Place) (s : List ℕ) (i : ℕ) → length s ≤ i → gap c (drop i s) ≡ 0
@@ -109,11 +89,11 @@ gap-go : (c : Place) (s : List ℕ) (i : ℕ) → i < length s → passed c (get
 unfolding gap
 gap-go c s i h e = rw (drop-cons s i 0 h, e, add-one i) (omega arith)
 
-module _ (s : List ℕ) (i p n : ℕ) (q : i + gap (place_of p) (drop i s) ≡ n) where
+module _ (s : List ℕ) (i : ℕ) (p : places.Place) (n : ℕ) (q : i + gap (place_of p) (drop i s) ≡ n) where
   pub skip_stop : i < length s → passed (place_of p) (get_or s i 0) ≡ false → i ≡ n
   skip_stop h e = omega (arith, gap-stop (place_of p) s i h e)
 
-  pub skip-more : (r : ℕ) → i < length s → passed (place_of p) (get_or s i 0) ≡ true → place_of r ≡ next_place (place_of p) (get_or s i 0) → i + 1 + gap (place_of r) (drop (i + 1) s) ≡ n
+  pub skip-more : (r : places.Place) → i < length s → passed (place_of p) (get_or s i 0) ≡ true → place_of r ≡ next_place (place_of p) (get_or s i 0) → i + 1 + gap (place_of r) (drop (i + 1) s) ≡ n
   skip-more r h e k = rw k (omega (arith, gap-go (place_of p) s i h e))
 
   pub skip_end : i ≡ length s → length s ≡ n

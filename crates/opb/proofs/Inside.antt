@@ -16,9 +16,12 @@ use Rattle.lexer.proofs.Meanings.{falsely}
 use Rattle.lexer.proofs.Named.{run_on}
 use Rattle.lexer.proofs.Runs.{span-go}
 use Rattle.lexer.proofs.Spoken.{slice_from}
+use Rattle.std.specs.Prelude.{Result, Ok, Err}
+use Rattle.lexer.specs.declared.Fault.{Fault}
+use Rattle.lexer.specs.declared.Reason.TheVariants.{BadByte, Format}
 use Rattle.opb.specs.Tokens.{opb_token_of, OpbPlaced}
 use Rattle.opb.specs.declared.OpbToken.{OpbToken}
-use Rattle.opb.specs.declared.OpbToken.TheVariants.{End, Number, Literal, Relation, Semicolon, Bad}
+use Rattle.opb.specs.declared.OpbToken.TheVariants.{End, Number, Literal, Relation, Semicolon}
 
 -- ---- one byte
 pub semicolon-ends : (b : ℕ) → b ≡ byte ";" → false ≡ in_opb_word b
@@ -59,7 +62,7 @@ module _ (s : List ℕ) (at f : ℕ) (start : f ≡ at + span is_blank (drop at 
   unfolding inside_at opb_behind
   behind = rw (drop-drop (span is_blank (drop at s)) at s, ← start)
 
-  pub token_end : length s ≤ f → opb_token_of s (End f) ≡ inside_at s at
+  pub token_end : length s ≤ f → opb_token_of s (Ok (End f)) ≡ inside_at s at
   unfolding opb_token_of opb_from
   token_end h = rw (behind, drop_of_length-le s h)
 
@@ -72,26 +75,26 @@ module _ (s : List ℕ) (at f : ℕ) (start : f ≡ at + span is_blank (drop at 
         rw (behind, y, e, c, b)
 
     module _ (b : in_opb_word (get_or s f 0) ≡ false) where
-      pub token-semicolon : get_or s f 0 ≡ byte ";" → opb_token_of s (Semicolon f) ≡ inside_at s at
+      pub token-semicolon : get_or s f 0 ≡ byte ";" → opb_token_of s (Ok (Semicolon f)) ≡ inside_at s at
       unfolding opb_token_of opb_from
       token-semicolon e = rw (behind, drop-cons s f 0 h, b, eq-eqb _ _ e)
 
-      pub token-opens : (k : ℕ) → (get_or s f 0 ≡ byte ";" → ⊥) → k ≡ class_of (get_or s f 0) → k ≡ 2 → opb_token_of s (Bad 51 f) ≡ inside_at s at
+      pub token-opens : (k : ℕ) → (get_or s f 0 ≡ byte ";" → ⊥) → k ≡ class_of (get_or s f 0) → k ≡ 2 → opb_token_of s (Err (Format, f)) ≡ inside_at s at
       unfolding opb_token_of opb_from
       token-opens k n q e = rw (behind, drop-cons s f 0 h, b, ne_eqb _ _ n, ← q, e)
 
-      pub token-closes : (k : ℕ) → (get_or s f 0 ≡ byte ";" → ⊥) → k ≡ class_of (get_or s f 0) → k ≡ 3 → opb_token_of s (Bad 51 f) ≡ inside_at s at
+      pub token-closes : (k : ℕ) → (get_or s f 0 ≡ byte ";" → ⊥) → k ≡ class_of (get_or s f 0) → k ≡ 3 → opb_token_of s (Err (Format, f)) ≡ inside_at s at
       unfolding opb_token_of opb_from
       token-closes k n q e = rw (behind, drop-cons s f 0 h, b, ne_eqb _ _ n, ← q, e)
 
-      pub token-bad : (k : ℕ) → (get_or s f 0 ≡ byte ";" → ⊥) → k ≡ class_of (get_or s f 0) → (k ≡ 2 → ⊥) → (k ≡ 3 → ⊥) → opb_token_of s (Bad 3 f) ≡ inside_at s at
+      pub token-bad : (k : ℕ) → (get_or s f 0 ≡ byte ";" → ⊥) → k ≡ class_of (get_or s f 0) → (k ≡ 2 → ⊥) → (k ≡ 3 → ⊥) → opb_token_of s (Err (BadByte, f)) ≡ inside_at s at
       unfolding opb_token_of opb_from
       token-bad k n q e g = rw (behind, drop-cons s f 0 h, b, ne_eqb _ _ n, ← q, ne_eqb k 2 e, ne_eqb k 3 g)
 
-pub placed-from : (s : List ℕ) (at f : ℕ) → at ≤ f → (r : OpbToken) → OpbPlaced s f r → OpbPlaced s at r
-placed-from s at f h (End p) e = e
-placed-from s at f h (Number m v p t) (a, e, b, c, d) = (a, e, omega arith, c, d)
-placed-from s at f h (Literal d p n t) (a, b, c, e, g) = (a, omega arith, c, e, g)
-placed-from s at f h (Relation e p t) (a, b, c) = (omega arith, b, c)
-placed-from s at f h (Semicolon p) (a, b) = (omega arith, b)
-placed-from s at f h (Bad e p) (a, b) = (omega arith, b)
+pub placed-from : (s : List ℕ) (at f : ℕ) → at ≤ f → (r : Result OpbToken Fault) → OpbPlaced s f r → OpbPlaced s at r
+placed-from s at f h (Ok (End p)) e = e
+placed-from s at f h (Ok (Number m v p t)) (a, e, b, c, d) = (a, e, omega arith, c, d)
+placed-from s at f h (Ok (Literal d p n t)) (a, b, c, e, g) = (a, omega arith, c, e, g)
+placed-from s at f h (Ok (Relation e p t)) (a, b, c) = (omega arith, b, c)
+placed-from s at f h (Ok (Semicolon p)) (a, b) = (omega arith, b)
+placed-from s at f h (Err e) (a, b) = (omega arith, b)

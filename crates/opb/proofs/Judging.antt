@@ -8,21 +8,21 @@ use native.Mathlib.Omega.{arith}
 use lib.IntN.{ℤ}
 use lib.ListN.{length}
 use lib.Seq.{slice}
+use Rattle.std.specs.Prelude.{Ok, Err}
 use Rattle.integer.specs.Integers.{signed}
 use Rattle.calculus.specs.Commands.{enough}
 use Rattle.calculus.specs.OpbWords.{plain, negated, inside_at}
 use Rattle.calculus.specs.OpbWriting.{Summand, times, compare}
 use Rattle.calculus.specs.OpbReading.{OneRead, found, fault, constraint_from}
 use Rattle.calculus.specs.Limits.{max_text}
+use Rattle.lexer.specs.Tokens.{reason_number}
+use Rattle.lexer.specs.declared.Fault.{Fault}
 use Rattle.opb.specs.Counts.{negations}
-use Rattle.opb.specs.Judged.{ItemIs, ConstantIs, judged_at, JudgedIs, put_summand}
+use Rattle.opb.specs.Judged.{ItemIs, ConstantIs, judged_at, IsWhole, JudgedIs, put_summand}
 use Rattle.opb.specs.Summands.{max_summands, summand_words, literal_over, summands_of, SummandsIn}
 use Rattle.opb.specs.Tokens.{relation_of}
-use Rattle.opb.specs.declared.Constant.{Constant}
-use Rattle.opb.specs.declared.Constant.TheVariants.{Is, Not}
 use Rattle.opb.specs.declared.Item.{Item}
-use Rattle.opb.specs.declared.Item.TheVariants.{Summand as SummandItem, Compared, Off}
-use Rattle.opb.specs.declared.Judged.TheVariants.{Whole, Fault}
+use Rattle.opb.specs.declared.Item.TheVariants.{Summand as SummandItem, Compared}
 use Rattle.opb.proofs.Storing.{put-long, none-stored, more-stored}
 
 -- ---- one summand more
@@ -79,7 +79,7 @@ module _ (s : List ℕ) (at : ℕ) (a₀ : List ℕ) where
     short = l;
   }
 
-  module _ (a : List ℕ) (i q g : ℕ) (I : Inv s at a₀ a i q g) (r : Item) (P : ItemIs s i r) where
+  module _ (a : List ℕ) (i q g : ℕ) (I : Inv s at a₀ a i q g) where
     -- what this item says of the constraint
     one_more : (y : OneRead) → ((f : ℕ) → constraint_from (suc f) s I.xs (inside_at s i) ≡ y) → judged_at s at ≡ y
     one_more y e = go I.fuel I.more I.follows
@@ -88,58 +88,58 @@ module _ (s : List ℕ) (at : ℕ) (a₀ : List ℕ) where
         go zero h q = absurd (not-suc-le-zero h)
         go (suc f) h q = q ∙ e f
 
-    pub judge-off : (e p : ℕ) → r ≡ Off e p → JudgedIs s at a (Fault e p)
-    judge-off e p x = one_more (fault e p) (λ f. (subst (ItemIs s i) x P) f I.xs)
+    pub judge-off : (e : Fault) → ItemIs s i (Err e) → JudgedIs s at a (Err e)
+    judge-off e P = one_more (fault (reason_number e.0) e.1) (λ f. P f I.xs)
 
-    pub summand : (m : Bool) (v : ℕ) (d : Bool) (n t : ℕ) → r ≡ SummandItem m v d n t → ItemIs s i (SummandItem m v d n t)
-    summand m v d n t x = subst (ItemIs s i) x P
+    module _ (r : Item) (P : ItemIs s i (Ok r)) where
+      pub summand : (m : Bool) (v : ℕ) (d : Bool) (n t : ℕ) → r ≡ SummandItem m v d n t → ItemIs s i (Ok (SummandItem m v d n t))
+      summand m v d n t x = subst (λ (z : Item). ItemIs s i (Ok z)) x P
 
-    pub compared : (e : Bool) (t : ℕ) → r ≡ Compared e t → ItemIs s i (Compared e t)
-    compared e t x = subst (ItemIs s i) x P
+      pub compared : (e : Bool) (t : ℕ) → r ≡ Compared e t → ItemIs s i (Ok (Compared e t))
+      compared e t x = subst (λ (z : Item). ItemIs s i (Ok z)) x P
 
-    pub judge-more : (m : Bool) (v : ℕ) (d : Bool) (n t : ℕ) → r ≡ SummandItem m v d n t → (b : List ℕ) → b ≡ put_summand a q m v d n t → (h : ℕ) → h ≡ cond d (suc g) g → Inv s at a₀ b t (q + 1) h
-    judge-more m v d n t x b e h u = rw (e, u) (go I.fuel I.more I.follows)
-      where
-        S : ItemIs s i (SummandItem m v d n t)
-        S = summand m v d n t x
+      pub judge-more : (m : Bool) (v : ℕ) (d : Bool) (n t : ℕ) → r ≡ SummandItem m v d n t → (b : List ℕ) → b ≡ put_summand a q m v d n t → (h : ℕ) → h ≡ cond d (suc g) g → Inv s at a₀ b t (q + 1) h
+      judge-more m v d n t x b e h u = rw (e, u) (go I.fuel I.more I.follows)
+        where
+          S : ItemIs s i (Ok (SummandItem m v d n t))
+          S = summand m v d n t x
 
-        go : (f : ℕ) → length s - i < f → judged_at s at ≡ constraint_from f s I.xs (inside_at s i) → Inv s at a₀ (put_summand a q m v d n t) t (q + 1) (cond d (suc g) g)
-        go zero h w = absurd (not-suc-le-zero h)
-        go (suc f) h w = record {
-          xs = I.xs ++ (times (signed m v) (literal_over d (slice n t s)) ∷ []);
-          fuel = f;
-          more = omega (arith, S.4, S.6);
-          follows = w ∙ S.0 f I.xs;
-          count = long-snoc I.xs _ ∙ ap (λ (k : ℕ). k + 1) I.count;
-          bars = negations-snoc I.xs _ d _ ∙ ap (λ (k : ℕ). cond d (suc k) k) I.bars;
-          stored = more-stored s a q m v d n t I.xs I.stored I.room S.1 S.2 S.5 S.6 S.3;
-          later = omega (arith, I.later, S.4);
-          place = S.6;
-          counted = omega (arith, I.counted, S.4);
-          fewer = counted-le d g q I.fewer;
-          long = put-long a q m v d n t ∙ I.long;
-          room = rw (put-long a q m v d n t) I.room;
-          short = I.short;
-        }
-
-    module _ (e : Bool) (t : ℕ) (x : r ≡ Compared e t) (k : Constant) (C : ConstantIs s t k) where
-      pub judge_not : (b p : ℕ) → k ≡ Not b p → JudgedIs s at a (Fault b p)
-      judge_not b p y = one_more (fault b p) (λ f. (compared e t x).0 f I.xs ∙ (subst (ConstantIs s t) y C) I.xs (relation_of e))
-
-      pub judge-whole : (m : Bool) (v u : ℕ) → k ≡ Is m v u → JudgedIs s at a (Whole u e m v q g)
-      judge-whole m v u y =
-          let K : ConstantIs s t (Is m v u) = subst (ConstantIs s t) y C in
-          let R : ItemIs s i (Compared e t) = compared e t x in
-          record {
-            xs = I.xs;
-            parsed = one_more (found (compare I.xs (relation_of e) (signed m v)) u) (λ f. R.0 f I.xs ∙ K.0 I.xs (relation_of e));
-            count = I.count;
-            negated = I.bars;
-            stored = I.stored;
-            later = omega (arith, I.later, R.1, K.3);
-            inside = K.4;
-            size = K.1;
-            minus = K.2;
-            counted = omega (arith, I.counted, I.place);
-            fewer = I.fewer;
+          go : (f : ℕ) → length s - i < f → judged_at s at ≡ constraint_from f s I.xs (inside_at s i) → Inv s at a₀ (put_summand a q m v d n t) t (q + 1) (cond d (suc g) g)
+          go zero h w = absurd (not-suc-le-zero h)
+          go (suc f) h w = record {
+            xs = I.xs ++ (times (signed m v) (literal_over d (slice n t s)) ∷ []);
+            fuel = f;
+            more = omega (arith, S.4, S.6);
+            follows = w ∙ S.0 f I.xs;
+            count = long-snoc I.xs _ ∙ ap (λ (k : ℕ). k + 1) I.count;
+            bars = negations-snoc I.xs _ d _ ∙ ap (λ (k : ℕ). cond d (suc k) k) I.bars;
+            stored = more-stored s a q m v d n t I.xs I.stored I.room S.1 S.2 S.5 S.6 S.3;
+            later = omega (arith, I.later, S.4);
+            place = S.6;
+            counted = omega (arith, I.counted, S.4);
+            fewer = counted-le d g q I.fewer;
+            long = put-long a q m v d n t ∙ I.long;
+            room = rw (put-long a q m v d n t) I.room;
+            short = I.short;
           }
+
+      module _ (e : Bool) (t : ℕ) (x : r ≡ Compared e t) where
+        pub judge_not : (b : Fault) → ConstantIs s t (Err b) → JudgedIs s at a (Err b)
+        judge_not b C = one_more (fault (reason_number b.0) b.1) (λ f. (compared e t x).0 f I.xs ∙ C I.xs (relation_of e))
+
+        pub judge-whole : (m : Bool) (v u : ℕ) → ConstantIs s t (Ok (m, v, u)) → IsWhole s at a u e m v q g
+        judge-whole m v u K =
+            let R : ItemIs s i (Ok (Compared e t)) = compared e t x in
+            record {
+              xs = I.xs;
+              parsed = one_more (found (compare I.xs (relation_of e) (signed m v)) u) (λ f. R.0 f I.xs ∙ K.0 I.xs (relation_of e));
+              count = I.count;
+              negated = I.bars;
+              stored = I.stored;
+              later = omega (arith, I.later, R.1, K.3);
+              inside = K.4;
+              size = K.1;
+              minus = K.2;
+              counted = omega (arith, I.counted, I.place);
+              fewer = I.fewer;
+            }

@@ -22,9 +22,11 @@ use Rattle.lexer.proofs.Bytes.{or_less}
 use Rattle.lexer.proofs.Meanings.{falsely}
 use Rattle.lexer.proofs.Numbers.{small-yes, small-no}
 use Rattle.lexer.proofs.Spoken.{slice_from}
+use Rattle.std.specs.Prelude.{Ok, Err}
+use Rattle.lexer.specs.declared.Reason.TheVariants.{BadNumeral, BadWord, Objective}
 use Rattle.opb.specs.Summands.{literal_over}
 use Rattle.opb.specs.Tokens.{opb_token_of, relation_of}
-use Rattle.opb.specs.declared.OpbToken.TheVariants.{Number, Literal, Relation as RelationTok, Bad}
+use Rattle.opb.specs.declared.OpbToken.TheVariants.{Number, Literal, Relation as RelationTok}
 
 -- ---- digits
 digits-within : (xs : List ℕ) (k : ℕ) → k ≤ span is_digit xs → digits (take k xs) ≡ true
@@ -96,33 +98,33 @@ module _ (s : List ℕ) (n t d : ℕ) (h : n < t) (l : t ≤ length s) (x : get_
       split ∙ rw (y, z, w)
 
 module _ (s : List ℕ) (f t : ℕ) (c : Bool) where
-  pub literal-bad : (w : OpbWord) → c ≡ false → opb_token_of s (Bad 5 f) ≡ opb_judged f t (ensure c 5 (ok w))
+  pub literal-bad : (w : OpbWord) → c ≡ false → opb_token_of s (Err (BadWord, f)) ≡ opb_judged f t (ensure c 5 (ok w))
   unfolding opb_token_of opb_judged ensure
   literal-bad w e = rw e
 
-  pub literal-good : (d : Bool) (n : ℕ) → c ≡ true → opb_token_of s (Literal d f n t) ≡ opb_judged f t (ensure c 5 (ok (literal-word (literal_over d (slice n t s)))))
+  pub literal-good : (d : Bool) (n : ℕ) → c ≡ true → opb_token_of s (Ok (Literal d f n t)) ≡ opb_judged f t (ensure c 5 (ok (literal-word (literal_over d (slice n t s)))))
   unfolding opb_token_of opb_judged ensure
   literal-good d n e = rw e
 
 -- ---- numbers, by their magnitude
 module _ (s : List ℕ) (f t v : ℕ) (r : Res ℕ) (q : small v ≡ r) where
-  pub unsigned_big : 99999999 < v → opb_token_of s (Bad 4 f) ≡ opb_judged f t (bind r (λ n. ok (number_word (pos n))))
+  pub unsigned_big : 99999999 < v → opb_token_of s (Err (BadNumeral, f)) ≡ opb_judged f t (bind r (λ n. ok (number_word (pos n))))
   unfolding opb_token_of opb_judged bind
   unsigned_big h = rw (sym q ∙ small-no v h)
 
-  pub unsigned-good : v ≤ 99999999 → opb_token_of s (Number false v f t) ≡ opb_judged f t (bind r (λ n. ok (number_word (pos n))))
+  pub unsigned-good : v ≤ 99999999 → opb_token_of s (Ok (Number false v f t)) ≡ opb_judged f t (bind r (λ n. ok (number_word (pos n))))
   unfolding opb_token_of opb_judged bind signed
   unsigned-good h = rw (sym q ∙ small-yes v h)
 
-  pub minus-zero : v ≡ 0 → opb_token_of s (Bad 4 f) ≡ opb_judged f t (bind (bind r negative) (λ z. ok (number_word z)))
+  pub minus-zero : v ≡ 0 → opb_token_of s (Err (BadNumeral, f)) ≡ opb_judged f t (bind (bind r negative) (λ z. ok (number_word z)))
   unfolding opb_token_of opb_judged bind negative
   minus-zero e = let u : r ≡ ok 0 = sym q ∙ rw e (small-yes 0 (omega arith)) in rw u
 
-  pub minus-big : 99999999 < v → opb_token_of s (Bad 4 f) ≡ opb_judged f t (bind (bind r negative) (λ z. ok (number_word z)))
+  pub minus-big : 99999999 < v → opb_token_of s (Err (BadNumeral, f)) ≡ opb_judged f t (bind (bind r negative) (λ z. ok (number_word z)))
   unfolding opb_token_of opb_judged bind
   minus-big h = rw (sym q ∙ small-no v h)
 
-  pub minus-good : (v ≡ 0 → ⊥) → v ≤ 99999999 → opb_token_of s (Number true v f t) ≡ opb_judged f t (bind (bind r negative) (λ z. ok (number_word z)))
+  pub minus-good : (v ≡ 0 → ⊥) → v ≤ 99999999 → opb_token_of s (Ok (Number true v f t)) ≡ opb_judged f t (bind (bind r negative) (λ z. ok (number_word z)))
   unfolding opb_token_of opb_judged bind negative signed
   minus-good n h = let u : r ≡ ok v = sym q ∙ small-yes v h in rw u (go v n)
     where
@@ -140,7 +142,7 @@ module _ (s : List ℕ) (f t : ℕ) (h : f < t) (l : t ≤ length s) where
   unfolding other_of objective same_name literal_of literal_over
   tilde e = rw (slice-cons f t s 0 h l, e, add-one f)
 
-  pub tilde-bad : get_or s f 0 ≡ byte "~" → is_variable (slice (f + 1) t s) ≡ false → opb_token_of s (Bad 5 f) ≡ opb_judged f t (other_of (slice f t s))
+  pub tilde-bad : get_or s f 0 ≡ byte "~" → is_variable (slice (f + 1) t s) ≡ false → opb_token_of s (Err (BadWord, f)) ≡ opb_judged f t (other_of (slice f t s))
   unfolding opb_token_of opb_judged ensure
   tilde-bad e v = rw (tilde e, v)
 
@@ -158,26 +160,26 @@ unfolding literal_of is_variable ensure
 lone s f t h l n x = rw (slice-cons f t s 0 h l, ne_eqb (get_or s f 0) (byte "~") n, ne_eqb (get_or s f 0) (byte "x") x)
 
 module _ (s : List ℕ) (f t : ℕ) where
-  pub other-at_least : true ≡ same_name (bytes ">=") (slice f t s) → opb_token_of s (RelationTok false f t) ≡ opb_judged f t (other_of (slice f t s))
+  pub other-at_least : true ≡ same_name (bytes ">=") (slice f t s) → opb_token_of s (Ok (RelationTok false f t)) ≡ opb_judged f t (other_of (slice f t s))
   unfolding opb_token_of opb_judged other_of relation_of
   other-at_least e = rw (← e)
 
   module _ (a : false ≡ same_name (bytes ">=") (slice f t s)) where
-    pub other-equal : true ≡ same_name (bytes "=") (slice f t s) → opb_token_of s (RelationTok true f t) ≡ opb_judged f t (other_of (slice f t s))
+    pub other-equal : true ≡ same_name (bytes "=") (slice f t s) → opb_token_of s (Ok (RelationTok true f t)) ≡ opb_judged f t (other_of (slice f t s))
     unfolding opb_token_of opb_judged other_of relation_of
     other-equal e = rw (← a, ← e)
 
     module _ (q : false ≡ same_name (bytes "=") (slice f t s)) where
-      pub other-min : true ≡ same_name (bytes "min:") (slice f t s) → opb_token_of s (Bad 50 f) ≡ opb_judged f t (other_of (slice f t s))
+      pub other-min : true ≡ same_name (bytes "min:") (slice f t s) → opb_token_of s (Err (Objective, f)) ≡ opb_judged f t (other_of (slice f t s))
       unfolding opb_token_of opb_judged other_of objective
       other-min e = rw (← a, ← q, ← e)
 
-      pub other-max : false ≡ same_name (bytes "min:") (slice f t s) → true ≡ same_name (bytes "max:") (slice f t s) → opb_token_of s (Bad 50 f) ≡ opb_judged f t (other_of (slice f t s))
+      pub other-max : false ≡ same_name (bytes "min:") (slice f t s) → true ≡ same_name (bytes "max:") (slice f t s) → opb_token_of s (Err (Objective, f)) ≡ opb_judged f t (other_of (slice f t s))
       unfolding opb_token_of opb_judged other_of objective
       other-max m e = rw (← a, ← q, ← m, ← e)
 
       pub other_none : f < t → t ≤ length s → (get_or s f 0 ≡ byte "~" → ⊥) → (get_or s f 0 ≡ byte "x" → ⊥) → false ≡ same_name (bytes "min:") (slice f t s) → false ≡ same_name (bytes "max:") (slice f t s)
-          → opb_token_of s (Bad 5 f) ≡ opb_judged f t (other_of (slice f t s))
+          → opb_token_of s (Err (BadWord, f)) ≡ opb_judged f t (other_of (slice f t s))
       unfolding opb_token_of opb_judged other_of objective
       other_none h l n x m e = rw (← a, ← q, ← m, ← e, lone s f t h l n x)
 

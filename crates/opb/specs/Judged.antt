@@ -1,5 +1,5 @@
 -- What the judge of one constraint answers, in the definitions' words (02, No. 1).
-use Rattle.std.specs.Prelude.{◌≡◌, Bool, true, cond, List, [], ◌∷◌, ◌++◌, ℕ, suc, ◌+◌, ◌*◌, ◌≤◌, ◌<◌, ltb, length, set}
+use Rattle.std.specs.Prelude.{◌≡◌, Result, Ok, Err, Bool, true, cond, List, [], ◌∷◌, ◌++◌, ℕ, suc, ◌+◌, ◌*◌, ◌≤◌, ◌<◌, ltb, length, set}
 use Rattle.std.proofs.Math.Seq.{slice}
 use Rattle.integer.specs.Integers.{signed}
 use Rattle.calculus.specs.Words.{max_numeral, max_name}
@@ -10,43 +10,38 @@ use Rattle.calculus.specs.OpbReading.{OneRead, found, fault, on_literal, on_semi
 use Rattle.opb.specs.Counts.{negations}
 use Rattle.opb.specs.Summands.{max_summands, literal_over, summands_of, SummandsIn}
 use Rattle.opb.specs.Tokens.{relation_of}
-use Rattle.opb.specs.declared.Closed.{Closed}
-use Rattle.opb.specs.declared.Closed.TheVariants.{At, Open}
-use Rattle.opb.specs.declared.Constant.{Constant}
-use Rattle.opb.specs.declared.Constant.TheVariants.{Is, Not}
+use Rattle.lexer.specs.Tokens.{reason_number}
+use Rattle.lexer.specs.declared.Fault.{Fault}
 use Rattle.opb.specs.declared.Item.{Item}
-use Rattle.opb.specs.declared.Item.TheVariants.{Summand as SummandItem, Compared, Off}
+use Rattle.opb.specs.declared.Item.TheVariants.{Summand as SummandItem, Compared}
 use Rattle.opb.specs.declared.Judged.{Judged}
-use Rattle.opb.specs.declared.Judged.TheVariants.{Whole, Fault}
-use Rattle.opb.specs.declared.LiteralAt.{LiteralAt}
-use Rattle.opb.specs.declared.LiteralAt.TheVariants.{Named, Other}
 
 -- ---- parts of a constraint, from byte `at` of the text s on
 -- a literal, with where its name begins and ends, or a refusal
-abbrev pub LiteralIs : List ℕ → ℕ → LiteralAt → Type 0
-LiteralIs s at (Named d n t) =
+abbrev pub LiteralIs : List ℕ → ℕ → Result (Bool × ℕ × ℕ) Fault → Type 0
+LiteralIs s at (Ok (d, n, t)) =
     ((k : Literal → ℕ → OneRead) → on_literal k (inside_at s at) ≡ k (literal_over d (slice n t s)) t) × (t ≤ n + max_name) × (at < t) × (n < t) × (t ≤ length s)
-LiteralIs s at (Other e p) = (k : Literal → ℕ → OneRead) → on_literal k (inside_at s at) ≡ fault e p
+LiteralIs s at (Err e) = (k : Literal → ℕ → OneRead) → on_literal k (inside_at s at) ≡ fault (reason_number e.0) e.1
 
 -- a summand, the relation, or a refusal
-abbrev pub ItemIs : List ℕ → ℕ → Item → Type 0
-ItemIs s at (SummandItem m v d n t) =
+abbrev pub ItemIs : List ℕ → ℕ → Result Item Fault → Type 0
+ItemIs s at (Ok (SummandItem m v d n t)) =
     ((f : ℕ) (xs : List Summand) → constraint_from (suc f) s xs (inside_at s at) ≡ constraint_from f s (xs ++ (times (signed m v) (literal_over d (slice n t s)) ∷ [])) (inside_at s t))
     × (v ≤ max_numeral) × (m ≡ true → 1 ≤ v) × (t ≤ n + max_name) × (at < t) × (n < t) × (t ≤ length s)
-ItemIs s at (Compared e t) =
+ItemIs s at (Ok (Compared e t)) =
     ((f : ℕ) (xs : List Summand) → constraint_from (suc f) s xs (inside_at s at) ≡ constant_at s xs (relation_of e) t) × (at < t) × (t ≤ length s)
-ItemIs s at (Off e p) = (f : ℕ) (xs : List Summand) → constraint_from (suc f) s xs (inside_at s at) ≡ fault e p
+ItemIs s at (Err e) = (f : ℕ) (xs : List Summand) → constraint_from (suc f) s xs (inside_at s at) ≡ fault (reason_number e.0) e.1
 
 -- `;`, with where the text goes on, or a refusal
-abbrev pub ClosedIs : List ℕ → ℕ → Closed → Type 0
-ClosedIs s at (At t) = ((k : ℕ → OneRead) → on_semicolon k (inside_at s at) ≡ k t) × (at < t) × (t ≤ length s)
-ClosedIs s at (Open e p) = (k : ℕ → OneRead) → on_semicolon k (inside_at s at) ≡ fault e p
+abbrev pub ClosedIs : List ℕ → ℕ → Result ℕ Fault → Type 0
+ClosedIs s at (Ok t) = ((k : ℕ → OneRead) → on_semicolon k (inside_at s at) ≡ k t) × (at < t) × (t ≤ length s)
+ClosedIs s at (Err e) = (k : ℕ → OneRead) → on_semicolon k (inside_at s at) ≡ fault (reason_number e.0) e.1
 
 -- a constant and `;`, or a refusal
-abbrev pub ConstantIs : List ℕ → ℕ → Constant → Type 0
-ConstantIs s at (Is m v t) =
+abbrev pub ConstantIs : List ℕ → ℕ → Result (Bool × ℕ × ℕ) Fault → Type 0
+ConstantIs s at (Ok (m, v, t)) =
     ((xs : List Summand) (r : Relation) → constant_at s xs r at ≡ found (compare xs r (signed m v)) t) × (v ≤ max_numeral) × (m ≡ true → 1 ≤ v) × (at < t) × (t ≤ length s)
-ConstantIs s at (Not e p) = (xs : List Summand) (r : Relation) → constant_at s xs r at ≡ fault e p
+ConstantIs s at (Err e) = (xs : List Summand) (r : Relation) → constant_at s xs r at ≡ fault (reason_number e.0) e.1
 
 -- ---- a whole constraint
 -- the constraint whose first token stands at byte `at` of the text s, or behind blanks from there on
@@ -68,9 +63,9 @@ pub record IsWhole (s : List ℕ) (at : ℕ) (a : List ℕ) (t : ℕ) (e m : Boo
   pub fewer : g ≤ q
 
 -- the judge's answer; the summands stand in the words a
-abbrev pub JudgedIs : List ℕ → ℕ → List ℕ → Judged → Type 0
-JudgedIs s at a (Whole t e m v q g) = IsWhole s at a t e m v q g
-JudgedIs s at a (Fault e p) = judged_at s at ≡ fault e p
+abbrev pub JudgedIs : List ℕ → ℕ → List ℕ → Result Judged Fault → Type 0
+JudgedIs s at a (Ok j) = IsWhole s at a j.end j.equal j.negative j.magnitude j.count j.negated
+JudgedIs s at a (Err e) = judged_at s at ≡ fault (reason_number e.0) e.1
 
 -- ---- how the summands are written
 -- 1 for yes

@@ -14,14 +14,9 @@ ghost use Rattle.opb.specs.Summands.{literal_over, summand_words};
 ghost use Rattle.opb.specs.Tokens.{relation_of, opb_token_of, OpbPlaced, Means, place_of};
 
 use lexer::{
-    BAD_BYTE, BAD_NUMERAL, BAD_WORD, CLOSES, MAX_NAME, MAX_NUMERAL, OPENS, behind_blanks, class,
-    in_word, is_blank, is_digit, magnitude, run_end, same,
+    CLOSES, Fault, MAX_NAME, MAX_NUMERAL, OPENS, Reason, behind_blanks, class, in_word, is_blank,
+    is_digit, magnitude, run_end, same,
 };
-
-// What an objective is refused by, and what stands where it may not.
-const OBJECTIVE: u8 = 50;
-
-const FORMAT: u8 = 51;
 
 // The words with one meaning.
 const AT_LEAST: [u8; 2] = *b">=";
@@ -33,11 +28,12 @@ const MIN: [u8; 4] = *b"min:";
 const MAX: [u8; 4] = *b"max:";
 
 // The places of a byte outside constraints: the first of its line, where a comment may begin, later in it, and in a comment.
-const FIRST: u8 = 0;
-
-const LATER: u8 = 1;
-
-const COMMENT: u8 = 2;
+#[derive(Clone, Copy)]
+enum Place {
+    First,
+    Later,
+    Comment,
+}
 
 // The most summands that are stored, and their words.
 const STORED_SUMMANDS: usize = 1364;
@@ -45,15 +41,14 @@ const STORED_SUMMANDS: usize = 1364;
 pub const SUMMAND_WORDS: usize = 5 * STORED_SUMMANDS;
 
 // The text's end; a number's sign and magnitude; whether a literal is negated, and where its word and its name begin;
-// whether a relation is `=`; each with where it begins and, but for `;`, ends; or a refusal and its byte.
-#[derive(Drop)]
+// whether a relation is `=`; each with where it begins and, but for `;`, ends.
+#[derive(Clone, Copy)]
 pub enum OpbToken {
     End(usize),
     Number(bool, u32, usize, usize),
     Literal(bool, usize, usize, usize),
     Relation(bool, usize, usize),
     Semicolon(usize),
-    Bad(u8, usize),
 }
 
 // ---- tests of one byte
@@ -96,49 +91,42 @@ fn word_end(text: &[u8], at: usize) -> usize
 
 // ---- comments
 // The place of byte `at`: the first of its line, or later in it.
-fn place_at(text: &[u8], at: usize) -> u8
+fn place_at(text: &[u8], at: usize) -> Place
     requires { at ≤ length text.now }
     ensures { place_of result ≡ place_at text.now at }
 {
     if at == 0 {
-        return FIRST;
+        return Place::First;
     }
-    if text[at - 1] == b'\n' {
-        return FIRST;
+    match text[at - 1] {
+        b'\n' => Place::First,
+        _ => Place::Later,
     }
-    LATER
 }
 
 // Whether b is a blank or a byte of a comment.
-fn passes(place: u8, b: u8) -> bool
+fn passes(place: Place, b: u8) -> bool
     ensures { result ≡ passed (place_of place) b }
 {
-    if LATER < place {
-        return printable(b);
+    match place {
+        Place::First => is_blank(b) || b == b'*',
+        Place::Later => is_blank(b),
+        Place::Comment => printable(b),
     }
-    if is_blank(b) {
-        return true;
-    }
-    if place == FIRST {
-        return b == b'*';
-    }
-    false
 }
 
 // The place behind b.
-fn next_place(place: u8, b: u8) -> u8
+fn next_place(place: Place, b: u8) -> Place
     ensures { place_of result ≡ next_place (place_of place) b }
 {
     if b == b'\n' {
-        return FIRST;
+        return Place::First;
     }
-    if place == FIRST {
-        if b == b'*' {
-            return COMMENT;
-        }
-        return LATER;
+    match place {
+        Place::First if b == b'*' => Place::Comment,
+        Place::First => Place::Later,
+        Place::Later | Place::Comment => place,
     }
-    place
 }
 
 // The first byte from `at` on, outside constraints, that is no blank and no byte of a comment, or the text's end.
@@ -159,30 +147,30 @@ pub fn behind_comments(text: &[u8], at: usize) -> usize
 
 // ---- words
 // The number of the digits from `first` on, of a word without `-`.
-fn unsigned(text: &[u8], from: usize, first: usize, to: usize) -> OpbToken
+fn unsigned(text: &[u8], from: usize, first: usize, to: usize) -> Result<OpbToken, Fault>
     requires { (from ≤ first) × (first < to) × (to ≤ length text.now) }
     ensures { Means text.now from to (bind (magnitude (slice first to text.now)) (λ n. ok (number_word (pos n)))) result }
 {
     let v = magnitude(text, first, to);
     if MAX_NUMERAL < v {
-        return OpbToken::Bad(BAD_NUMERAL, from);
+        return Err(Fault(Reason::BadNumeral, from));
     }
-    OpbToken::Number(false, v, from, to)
+    Ok(OpbToken::Number(false, v, from, to))
 }
 
 // The number of a word with `-`.
-fn below_zero(text: &[u8], from: usize, to: usize) -> OpbToken
+fn below_zero(text: &[u8], from: usize, to: usize) -> Result<OpbToken, Fault>
     requires { (from < to) × (to ≤ length text.now) }
     ensures { Means text.now from to (bind (bind (magnitude (slice (from + 1) to text.now)) negative) (λ z. ok (number_word z))) result }
 {
     let v = magnitude(text, from + 1, to);
     if v == 0 {
-        return OpbToken::Bad(BAD_NUMERAL, from);
+        return Err(Fault(Reason::BadNumeral, from));
     }
     if MAX_NUMERAL < v {
-        return OpbToken::Bad(BAD_NUMERAL, from);
+        return Err(Fault(Reason::BadNumeral, from));
     }
-    OpbToken::Number(true, v, from, to)
+    Ok(OpbToken::Number(true, v, from, to))
 }
 
 // The literal of the variable from `name` on, whose digits end at `digits`.
@@ -193,38 +181,38 @@ fn literal(
     name: usize,
     digits: usize,
     to: usize,
-) -> OpbToken
+) -> Result<OpbToken, Fault>
     requires { (from ≤ name) × (name < to) × (to ≤ length text.now) × (get_or text.now name 0 ≡ byte "x") × (digits ≡ name + 1 + span is_digit (drop (name + 1) text.now)) }
     ensures { Means text.now from to (ensure (is_variable (slice name to text.now)) 5 (ok (literal-word (literal_over negated (slice name to text.now))))) result }
 {
     if digits < to {
-        return OpbToken::Bad(BAD_WORD, from);
+        return Err(Fault(Reason::BadWord, from));
     }
     if to - name < 2 {
-        return OpbToken::Bad(BAD_WORD, from);
+        return Err(Fault(Reason::BadWord, from));
     }
     if MAX_NAME < to - name {
-        return OpbToken::Bad(BAD_WORD, from);
+        return Err(Fault(Reason::BadWord, from));
     }
-    OpbToken::Literal(negated, from, name, to)
+    Ok(OpbToken::Literal(negated, from, name, to))
 }
 
 // The word that begins with `~`.
-fn negated_literal(text: &[u8], from: usize, to: usize) -> OpbToken
+fn negated_literal(text: &[u8], from: usize, to: usize) -> Result<OpbToken, Fault>
     requires { (from < to) × (to ≤ length text.now) × (get_or text.now from 0 ≡ byte "~") }
     ensures { Means text.now from to (other_of (slice from to text.now)) result }
 {
     if to - from < 2 {
-        return OpbToken::Bad(BAD_WORD, from);
+        return Err(Fault(Reason::BadWord, from));
     }
     if text[from + 1] != b'x' {
-        return OpbToken::Bad(BAD_WORD, from);
+        return Err(Fault(Reason::BadWord, from));
     }
     literal(text, true, from, from + 1, digits_end(text, from + 2), to)
 }
 
 // The word that is no number and does not begin with `x`.
-fn other(text: &[u8], from: usize, to: usize) -> OpbToken
+fn other(text: &[u8], from: usize, to: usize) -> Result<OpbToken, Fault>
     requires { (from < to) × (to ≤ length text.now) × (get_or text.now from 0 ≡ byte "x" → ⊥) }
     ensures { Means text.now from to (other_of (slice from to text.now)) result }
 {
@@ -232,22 +220,22 @@ fn other(text: &[u8], from: usize, to: usize) -> OpbToken
         return negated_literal(text, from, to);
     }
     if same(&AT_LEAST, 0, 2, text, from, to) {
-        return OpbToken::Relation(false, from, to);
+        return Ok(OpbToken::Relation(false, from, to));
     }
     if same(&EQUAL, 0, 1, text, from, to) {
-        return OpbToken::Relation(true, from, to);
+        return Ok(OpbToken::Relation(true, from, to));
     }
     if same(&MIN, 0, 4, text, from, to) {
-        return OpbToken::Bad(OBJECTIVE, from);
+        return Err(Fault(Reason::Objective, from));
     }
     if same(&MAX, 0, 4, text, from, to) {
-        return OpbToken::Bad(OBJECTIVE, from);
+        return Err(Fault(Reason::Objective, from));
     }
-    OpbToken::Bad(BAD_WORD, from)
+    Err(Fault(Reason::BadWord, from))
 }
 
 // The word from `from` to `to`; the digits behind its first byte end at `digits`.
-fn word(text: &[u8], from: usize, digits: usize, to: usize) -> OpbToken
+fn word(text: &[u8], from: usize, digits: usize, to: usize) -> Result<OpbToken, Fault>
     requires { (from < to) × (to ≤ length text.now) × (digits ≡ from + 1 + span is_digit (drop (from + 1) text.now)) × (digits ≤ to) }
     ensures { Means text.now from to (opb_word_of (slice from to text.now)) result }
 {
@@ -271,13 +259,13 @@ fn word(text: &[u8], from: usize, digits: usize, to: usize) -> OpbToken
 }
 
 // The token at or after byte `at`, inside a constraint.
-pub fn inside_token(text: &[u8], at: usize) -> OpbToken
+pub fn inside_token(text: &[u8], at: usize) -> Result<OpbToken, Fault>
     requires { at ≤ length text.now }
     ensures { (opb_token_of text.now result ≡ inside_at text.now at) × OpbPlaced text.now at result }
 {
     let from = behind_blanks(text, at);
     if text.len() <= from {
-        return OpbToken::End(from);
+        return Ok(OpbToken::End(from));
     }
     let b = text[from];
     if in_opb_word(b) {
@@ -285,116 +273,83 @@ pub fn inside_token(text: &[u8], at: usize) -> OpbToken
         return word(text, from, digits, word_end(text, digits));
     }
     if b == b';' {
-        return OpbToken::Semicolon(from);
+        return Ok(OpbToken::Semicolon(from));
     }
     let k = class(b);
     if k == OPENS {
-        return OpbToken::Bad(FORMAT, from);
+        return Err(Fault(Reason::Format, from));
     }
     if k == CLOSES {
-        return OpbToken::Bad(FORMAT, from);
+        return Err(Fault(Reason::Format, from));
     }
-    OpbToken::Bad(BAD_BYTE, from)
+    Err(Fault(Reason::BadByte, from))
 }
 
 // ---- one constraint
-// A literal: whether it is negated, and where its name begins and ends; or a refusal and its byte.
-#[derive(Drop)]
-pub enum LiteralAt {
-    Named(bool, usize, usize),
-    Other(u8, usize),
-}
-
-// A literal has to stand here.
-fn literal_at(text: &[u8], at: usize) -> LiteralAt
+// A literal has to stand here: whether it is negated, and where its name begins and ends.
+fn literal_at(text: &[u8], at: usize) -> Result<(bool, usize, usize), Fault>
     requires { at ≤ length text.now }
     ensures { LiteralIs text.now at result }
 {
-    match inside_token(text, at) {
-        OpbToken::Literal(d, p, n, t) => LiteralAt::Named(d, n, t),
-        OpbToken::End(p) => LiteralAt::Other(FORMAT, p),
-        OpbToken::Number(m, v, p, t) => LiteralAt::Other(FORMAT, p),
-        OpbToken::Relation(e, p, t) => LiteralAt::Other(FORMAT, p),
-        OpbToken::Semicolon(p) => LiteralAt::Other(FORMAT, p),
-        OpbToken::Bad(e, p) => LiteralAt::Other(e, p),
+    match inside_token(text, at)? {
+        OpbToken::Literal(d, _, n, t) => Ok((d, n, t)),
+        OpbToken::End(p)
+        | OpbToken::Number(_, _, p, _)
+        | OpbToken::Relation(_, p, _)
+        | OpbToken::Semicolon(p) => Err(Fault(Reason::Format, p)),
     }
 }
 
 // What a constraint goes on with: a summand, its coefficient's sign and magnitude, whether its literal is negated, and
-// where its name begins and ends; the relation, whether it is `=`, and its end; or a refusal and its byte.
-#[derive(Drop)]
+// where its name begins and ends; the relation, whether it is `=`, and its end.
+#[derive(Clone, Copy)]
 pub enum Item {
     Summand(bool, u32, bool, usize, usize),
     Compared(bool, usize),
-    Off(u8, usize),
 }
 
 // A summand or a relation has to stand here.
-fn item_at(text: &[u8], at: usize) -> Item
+fn item_at(text: &[u8], at: usize) -> Result<Item, Fault>
     requires { at ≤ length text.now }
     ensures { ItemIs text.now at result }
 {
-    match inside_token(text, at) {
-        OpbToken::Number(m, v, p, t) => {
-            match literal_at(text, t) {
-                LiteralAt::Named(d, n, u) => Item::Summand(m, v, d, n, u),
-                LiteralAt::Other(e, b) => Item::Off(e, b),
-            }
+    match inside_token(text, at)? {
+        OpbToken::Number(m, v, _, t) => {
+            let (d, n, u) = literal_at(text, t)?;
+            Ok(Item::Summand(m, v, d, n, u))
         }
-        OpbToken::Relation(e, p, t) => Item::Compared(e, t),
-        OpbToken::End(p) => Item::Off(FORMAT, p),
-        OpbToken::Literal(d, p, n, t) => Item::Off(FORMAT, p),
-        OpbToken::Semicolon(p) => Item::Off(FORMAT, p),
-        OpbToken::Bad(e, p) => Item::Off(e, p),
+        OpbToken::Relation(e, _, t) => Ok(Item::Compared(e, t)),
+        OpbToken::End(p) | OpbToken::Literal(_, p, _, _) | OpbToken::Semicolon(p) => {
+            Err(Fault(Reason::Format, p))
+        }
     }
 }
 
-// Where the text goes on behind `;`, or a refusal and its byte.
-#[derive(Drop)]
-pub enum Closed {
-    At(usize),
-    Open(u8, usize),
-}
-
-// `;` has to stand here.
-fn closed_at(text: &[u8], at: usize) -> Closed
+// `;` has to stand here: where the text goes on behind it.
+fn closed_at(text: &[u8], at: usize) -> Result<usize, Fault>
     requires { at ≤ length text.now }
     ensures { ClosedIs text.now at result }
 {
-    match inside_token(text, at) {
-        OpbToken::Semicolon(p) => Closed::At(p + 1),
-        OpbToken::End(p) => Closed::Open(FORMAT, p),
-        OpbToken::Number(m, v, p, t) => Closed::Open(FORMAT, p),
-        OpbToken::Literal(d, p, n, t) => Closed::Open(FORMAT, p),
-        OpbToken::Relation(e, p, t) => Closed::Open(FORMAT, p),
-        OpbToken::Bad(e, p) => Closed::Open(e, p),
+    match inside_token(text, at)? {
+        OpbToken::Semicolon(p) => Ok(p + 1),
+        OpbToken::End(p)
+        | OpbToken::Number(_, _, p, _)
+        | OpbToken::Literal(_, p, _, _)
+        | OpbToken::Relation(_, p, _) => Err(Fault(Reason::Format, p)),
     }
 }
 
-// A constant's sign and magnitude, and where the text goes on behind its `;`; or a refusal and its byte.
-#[derive(Drop)]
-pub enum Constant {
-    Is(bool, u32, usize),
-    Not(u8, usize),
-}
-
-// A constant and `;` have to stand here.
-fn constant_at(text: &[u8], at: usize) -> Constant
+// A constant and `;` have to stand here: its sign and magnitude, and where the text goes on behind the `;`.
+fn constant_at(text: &[u8], at: usize) -> Result<(bool, u32, usize), Fault>
     requires { at ≤ length text.now }
     ensures { ConstantIs text.now at result }
 {
-    match inside_token(text, at) {
-        OpbToken::Number(m, v, p, t) => {
-            match closed_at(text, t) {
-                Closed::At(u) => Constant::Is(m, v, u),
-                Closed::Open(e, b) => Constant::Not(e, b),
-            }
-        }
-        OpbToken::End(p) => Constant::Not(FORMAT, p),
-        OpbToken::Literal(d, p, n, t) => Constant::Not(FORMAT, p),
-        OpbToken::Relation(e, p, t) => Constant::Not(FORMAT, p),
-        OpbToken::Semicolon(p) => Constant::Not(FORMAT, p),
-        OpbToken::Bad(e, p) => Constant::Not(e, p),
+    match inside_token(text, at)? {
+        OpbToken::Number(m, v, _, t) => Ok((m, v, closed_at(text, t)?)),
+        OpbToken::End(p)
+        | OpbToken::Literal(_, p, _, _)
+        | OpbToken::Relation(_, p, _)
+        | OpbToken::Semicolon(p) => Err(Fault(Reason::Format, p)),
     }
 }
 
@@ -430,15 +385,19 @@ pub fn store_summand(summands: &mut [u32], q: usize, m: bool, v: u32, d: bool, n
 }
 
 // A whole constraint: its end, whether its relation is `=`, its constant's sign and magnitude, and how many summands it
-// has, and of them negated; or a refusal and its byte.
-#[derive(Drop)]
-pub enum Judged {
-    Whole(usize, bool, bool, u32, usize, usize),
-    Fault(u8, usize),
+// has, and of them negated.
+#[derive(Clone, Copy)]
+pub struct Judged {
+    pub end: usize,
+    pub equal: bool,
+    pub negative: bool,
+    pub magnitude: u32,
+    pub count: usize,
+    pub negated: usize,
 }
 
 // Judges the constraint whose first token stands at or after byte `at`. Its summands are stored while there is room.
-pub fn judge(text: &[u8], at: usize, summands: &mut [u32]) -> Judged
+pub fn judge(text: &[u8], at: usize, summands: &mut [u32]) -> Result<Judged, Fault>
     requires { (at < length text.now) × (length text.now ≤ max_text) × (summand_words ≤ length summands.old) }
     ensures { JudgedIs text.now at summands.new result × (length summands.new ≡ length summands.old) }
 {
@@ -446,25 +405,23 @@ pub fn judge(text: &[u8], at: usize, summands: &mut [u32]) -> Judged
     let mut q = 0;
     let mut g = 0;
     loop {
-        match item_at(text, i) {
+        match item_at(text, i)? {
             Item::Summand(m, v, d, n, t) => {
                 store_summand(summands, q, m, v, d, n, t);
                 q += 1;
                 g = counted(g, d);
                 i = t;
             }
-            Item::Compared(e, t) => {
-                match constant_at(text, t) {
-                    Constant::Is(m, v, u) => {
-                        return Judged::Whole(u, e, m, v, q, g);
-                    }
-                    Constant::Not(b, p) => {
-                        return Judged::Fault(b, p);
-                    }
-                }
-            }
-            Item::Off(e, p) => {
-                return Judged::Fault(e, p);
+            Item::Compared(equal, t) => {
+                let (negative, magnitude, end) = constant_at(text, t)?;
+                return Ok(Judged {
+                    end,
+                    equal,
+                    negative,
+                    magnitude,
+                    count: q,
+                    negated: g,
+                });
             }
         }
     }

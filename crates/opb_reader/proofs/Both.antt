@@ -14,14 +14,13 @@ use Rattle.theorems.proofs.Offset.{later_read, read_behind_lem}
 use Rattle.theorems.proofs.OpbIds.{pols-behind}
 use Rattle.terms.specs.Spans.{max_joined}
 use Rattle.reader.specs.Commands.{commands_of}
-use Rattle.reader.specs.Reading.{Begun, ReadsBehind}
-use Rattle.reader.specs.declared.Whole.{Whole}
-use Rattle.reader.specs.declared.Whole.TheVariants.{All, Refused, Small}
+use Rattle.std.specs.Prelude.{Result, Ok, Err}
+use Rattle.lexer.specs.Tokens.{reason_number}
+use Rattle.lexer.specs.declared.Fault.{Fault}
+use Rattle.reader.specs.Reading.{Begun, Whole, All, Refused, ReadsBehind}
 use Rattle.opb_reader.specs.Ids.{ids, id_start, kept, joined}
 use Rattle.opb_reader.specs.Reading.{OpbReady, BothReady, IsModel, OpbIs, BothIs}
 use Rattle.opb_reader.specs.Standing.{IdsAt}
-use Rattle.opb_reader.specs.declared.Model.{Model}
-use Rattle.opb_reader.specs.declared.Model.TheVariants.{Assumed, Not}
 use Rattle.opb_reader.proofs.Ids.{last-id, kept-size, joined-size, ids_at}
 
 -- ---- every place m later
@@ -41,7 +40,7 @@ later-refused m (refused k p) e b h =
 
 -- ---- both texts in one string
 -- the OPB text is read
-pub model_is : (o j u x v y : List ℕ) (r : Model) → OpbIs o j u x v y r → (k n : ℕ) → r ≡ Assumed k n → IsModel o j u x v y k n
+pub model_is : (o j u x v y : List ℕ) (r : Result (ℕ × ℕ) Fault) → OpbIs o j u x v y r → (k n : ℕ) → r ≡ Ok (k, n) → IsModel o j u x v y k n
 model_is o j u x v y r h k n q = subst (OpbIs o j u x v y) q h
 
 module _ {o s j t w : List ℕ} (B : BothReady o s j t w) where
@@ -67,9 +66,9 @@ module _ {o s j t w : List ℕ} (B : BothReady o s j t w) where
   }
 
   -- the OPB text is refused
-  pub both-not : (u x v y : List ℕ) (r : Model) → OpbIs o j u x v y r → (e b : ℕ) → r ≡ Not e b → read_both o s ≡ refused e b
+  pub both-not : (u x v y : List ℕ) (r : Result (ℕ × ℕ) Fault) → OpbIs o j u x v y r → (e : Fault) → r ≡ Err e → read_both o s ≡ refused (reason_number e.0) e.1
   unfolding read_both on_opb
-  both-not u x v y r h e b q = rw (subst (OpbIs o j u x v y) q h)
+  both-not u x v y r h e q = rw (subst (OpbIs o j u x v y) q h)
 
   module _ {u x v y : List ℕ} {k n : ℕ} (model : IsModel o j u x v y k n) where
     behind : read_both o s ≡ read_behind (assumptions model.ks) s
@@ -144,6 +143,3 @@ module _ {o s j t w : List ℕ} (B : BothReady o s j t w) where
 
         pub both_later : (e b : ℕ) → f ≡ Refused e b → length j - length s ≤ b
         both_later e b g = (refusal e b g).1
-
-        pub both_small : f ≡ Small → ⊥
-        both_small g = subst (ReadsBehind j u u' x x' (length j - length s) k n n) g R

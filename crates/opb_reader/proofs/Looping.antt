@@ -21,7 +21,9 @@ use Rattle.reader.proofs.Words.{commands-long}
 use Rattle.opb.specs.Counts.{resulting, negations, sum_nodes, inequality_nodes}
 use Rattle.opb.specs.Judged.{IsWhole, JudgedIs}
 use Rattle.opb.specs.declared.Judged.{Judged}
-use Rattle.opb.specs.declared.Judged.TheVariants.{Whole, Fault}
+use Rattle.std.specs.Prelude.{Result, Err}
+use Rattle.lexer.specs.Tokens.{reason_number}
+use Rattle.lexer.specs.declared.Fault.{Fault}
 use Rattle.opb.specs.Summands.{max_summands, summand_words, summand_word, summand_at, summands_of, SummandIn, SummandsIn}
 use Rattle.opb.specs.Tokens.{relation_of}
 use Rattle.opb.proofs.Counting.{assumption-nodes, assumption-count}
@@ -132,14 +134,11 @@ module _ {o j t₀ w₀ v₀ y₀ t w v y a : List ℕ} {at k n : ℕ} (R : OpbR
 
   module _ (h : p < length o) where
     -- a refusal inside the constraint
-    pub opb-fault : (s : List ℕ) (r : Judged) → JudgedIs o p s r → (e b : ℕ) → r ≡ Fault e b → read_opb o ≡ refused_at e b
+    pub opb-fault : (s : List ℕ) (r : Result Judged Fault) → JudgedIs o p s r → (e : Fault) → r ≡ Err e → read_opb o ≡ refused_at (reason_number e.0) e.1
     unfolding on_one
-    opb-fault s r J e b q = step (refused_at e b) (λ f. outside-judged o at p start h f n k I.ks ∙ rw (subst (JudgedIs o p s) q J))
+    opb-fault s r J e q = step (refused_at (reason_number e.0) e.1) (λ f. outside-judged o at p start h f n k I.ks ∙ rw (subst (JudgedIs o p s) q J))
 
-    module _ (s : List ℕ) (r : Judged) (J : JudgedIs o p s r) {t' v' q g : ℕ} {e m : Bool} (whole : r ≡ Whole t' e m v' q g) where
-      W : IsWhole o p s t' e m v' q g
-      W = subst (JudgedIs o p s) whole J
-
+    module _ (s : List ℕ) {t' v' q g : ℕ} {e m : Bool} (W : IsWhole o p s t' e m v' q g) where
       -- what is counted stays small
       pub opb_counts : (q ≤ max_text) × (g ≤ q)
       opb_counts = (omega (arith, W.counted, R.short), W.fewer)

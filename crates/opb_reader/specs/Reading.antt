@@ -1,5 +1,5 @@
 -- What the readers of an OPB text, and of a proof text behind it, promise (02, No. 1).
-use Rattle.std.specs.Prelude.{◌≡◌, Bool, List, ◌++◌, ℕ, ◌+◌, ◌*◌, ◌≤◌, length}
+use Rattle.std.specs.Prelude.{◌≡◌, Result, Ok, Err, Bool, List, ◌++◌, ℕ, ◌+◌, ◌*◌, ◌≤◌, length}
 use Rattle.calculus.specs.Commands.{whole, refused}
 use Rattle.calculus.specs.OpbReading.{constraints, refused_at, read_opb}
 use Rattle.calculus.specs.OpbReport.{read_both}
@@ -10,15 +10,14 @@ use Rattle.nodes.specs.Nodes.{Table, Firsts, Named}
 use Rattle.terms.specs.Index.{hashes, Indexed}
 use Rattle.terms.specs.Spans.{max_joined}
 use Rattle.reader.specs.Commands.{id_index, all_words, commands_of, Commands}
-use Rattle.reader.specs.declared.Whole.{Whole}
-use Rattle.reader.specs.declared.Whole.TheVariants.{All, Refused, Small}
+use Rattle.lexer.specs.Tokens.{reason_number}
+use Rattle.lexer.specs.declared.Fault.{Fault}
+use Rattle.reader.specs.Reading.{Whole, All, Refused, Small}
 use Rattle.opb.specs.Counts.{negations, inequality_nodes}
 use Rattle.opb.specs.Summands.{summands_of, SummandsIn}
 use Rattle.opb_terms.specs.Making.{Numeral}
 use Rattle.opb_reader.specs.Ids.{joined}
 use Rattle.opb_reader.specs.Standing.{IdsAt, Standing}
-use Rattle.opb_reader.specs.declared.Model.{Model}
-use Rattle.opb_reader.specs.declared.Model.TheVariants.{Assumed, Not}
 
 -- ---- what they ask
 -- the ids begin at byte b of the string j; there is room for `more` assumptions of q summands and a constant
@@ -58,9 +57,9 @@ pub record IsModel (o j u x v y : List ℕ) (k n : ℕ) : Type 0 where
   pub standing : Standing j u x v y k n
   pub are : commands_of j u x k ≡ assumptions ks
 
-abbrev pub OpbIs : (o j u x v y : List ℕ) → Model → Type 0
-OpbIs o j u x v y (Assumed k n) = IsModel o j u x v y k n
-OpbIs o j u x v y (Not e b) = read_opb o ≡ refused_at e b
+abbrev pub OpbIs : (o j u x v y : List ℕ) → Result (ℕ × ℕ) Fault → Type 0
+OpbIs o j u x v y (Ok (k, n)) = IsModel o j u x v y k n
+OpbIs o j u x v y (Err e) = read_opb o ≡ refused_at (reason_number e.0) e.1
 
 -- both texts are read: all commands, p pol lines among them, are in the tables u and x, over the string j; or one is refused, by a byte of its own
 abbrev pub BothIs : (o s j u x : List ℕ) → Whole → Type 0

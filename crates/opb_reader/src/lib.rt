@@ -5,16 +5,18 @@
 ghost use Rattle.std.specs.Prelude.{◌≡◌, ◌≤◌};
 ghost use Rattle.integer.specs.Integers.{signed};
 ghost use Rattle.calculus.specs.Limits.{max_commands};
+ghost use Rattle.reader.specs.Reading.{whole_of};
 ghost use Rattle.opb.specs.Counts.{resulting};
 ghost use Rattle.opb.specs.Tokens.{relation_of};
 ghost use Rattle.opb_reader.specs.Ids.{id_start};
 ghost use Rattle.opb_reader.specs.Standing.{AssumptionPut, ConstraintPut};
 ghost use Rattle.opb_reader.specs.Reading.{Assuming, OpbReady, OpbIs, BothReady, BothIs};
 
-use heads::{MAX_COMMANDS, MAX_NODES, TOO_MANY};
-use opb::{Judged, SUMMAND_WORDS, behind_comments, judge, needed};
+use heads::{MAX_COMMANDS, MAX_NODES};
+use lexer::{Fault, Reason};
+use opb::{SUMMAND_WORDS, behind_comments, judge, needed};
 use opb_terms::put_inequality;
-use reader::{ASSUMPTION, MAX_TEXT, TOO_LONG, Whole, put_command, read_commands};
+use reader::{ASSUMPTION, MAX_TEXT, Whole, put_command, read_commands};
 use terms::NAME_WORDS;
 
 // Where the id behind k others begins among the ids: nine have one digit, ninety have two, the others have three.
@@ -119,14 +121,7 @@ fn put_constraint(
     m
 }
 
-// An OPB text was read: its assumptions and their nodes; or a refusal and its byte.
-#[derive(Drop)]
-pub enum Model {
-    Assumed(usize, usize),
-    Not(u8, usize),
-}
-
-// Reads an OPB text, which stands at the front of the string: its constraints one by one, each judged before its assumptions are made.
+// Reads an OPB text, which stands at the front of the string: its constraints one by one, each judged before its assumptions are made. Answers how many assumptions there are, and their nodes.
 fn read_opb(
     opb: &[u8],
     string: &[u8],
@@ -134,7 +129,7 @@ fn read_opb(
     commands: &mut [u16],
     pending: &mut [u16],
     names: &mut [u16],
-) -> Model
+) -> Result<(usize, usize), Fault>
     requires { OpbReady opb.now string.now nodes.old commands.old pending.old names.old }
     ensures { OpbIs opb.now string.now nodes.new commands.new pending.new names.new result }
 {
@@ -145,39 +140,33 @@ fn read_opb(
     loop {
         let p = behind_comments(opb, at);
         if p == opb.len() {
-            return Model::Assumed(k, n);
+            return Ok((k, n));
         }
-        match judge(opb, p, &mut summands) {
-            Judged::Fault(e, b) => {
-                return Model::Not(e, b);
-            }
-            Judged::Whole(t, equal, negative, magnitude, count, negated) => {
-                let more = resulting(equal);
-                if MAX_NODES < n + needed(equal, count, negated) {
-                    return Model::Not(TOO_MANY, p);
-                }
-                if MAX_COMMANDS < k + more {
-                    return Model::Not(TOO_MANY, p);
-                }
-                n = put_constraint(
-                    string,
-                    opb.len(),
-                    &summands,
-                    count,
-                    equal,
-                    negative,
-                    magnitude,
-                    nodes,
-                    commands,
-                    pending,
-                    names,
-                    k,
-                    n,
-                );
-                k += more;
-                at = t;
-            }
+        let judged = judge(opb, p, &mut summands)?;
+        let more = resulting(judged.equal);
+        if MAX_NODES < n + needed(judged.equal, judged.count, judged.negated) {
+            return Err(Fault(Reason::TooMany, p));
         }
+        if MAX_COMMANDS < k + more {
+            return Err(Fault(Reason::TooMany, p));
+        }
+        n = put_constraint(
+            string,
+            opb.len(),
+            &summands,
+            judged.count,
+            judged.equal,
+            judged.negative,
+            judged.magnitude,
+            nodes,
+            commands,
+            pending,
+            names,
+            k,
+            n,
+        );
+        k += more;
+        at = judged.end;
     }
 }
 
@@ -188,34 +177,29 @@ pub fn read_both(
     string: &[u8],
     nodes: &mut [u32],
     commands: &mut [u16],
-) -> Whole
+) -> Result<Whole, Fault>
     requires { BothReady opb.now text.now string.now nodes.old commands.old }
-    ensures { BothIs opb.now text.now string.now nodes.new commands.new result }
+    ensures { BothIs opb.now text.now string.now nodes.new commands.new (whole_of result) }
 {
     let mut pending = [0u16; MAX_NODES];
     let mut names = [0u16; NAME_WORDS];
-    match read_opb(opb, string, nodes, commands, &mut pending, &mut names) {
-        Model::Not(e, b) => Whole::Refused(e, b),
-        Model::Assumed(k, n) => {
-            if MAX_TEXT < text.len() {
-                return Whole::Refused(TOO_LONG, MAX_TEXT);
-            }
-            let start = string.len() - text.len();
-            match read_commands(
-                string,
-                start,
-                nodes,
-                commands,
-                &mut pending,
-                &mut names,
-                k,
-                n,
-                n,
-            ) {
-                Whole::Refused(e, b) => Whole::Refused(e, b - start),
-                Whole::All(l, m, c, p) => Whole::All(l, m, c, p),
-                Whole::Small => Whole::Small,
-            }
-        }
+    let (k, n) = read_opb(opb, string, nodes, commands, &mut pending, &mut names)?;
+    if MAX_TEXT < text.len() {
+        return Err(Fault(Reason::TooLong, MAX_TEXT));
+    }
+    let start = string.len() - text.len();
+    match read_commands(
+        string,
+        start,
+        nodes,
+        commands,
+        &mut pending,
+        &mut names,
+        k,
+        n,
+        n,
+    ) {
+        Ok(whole) => Ok(whole),
+        Err(Fault(reason, byte)) => Err(Fault(reason, byte - start)),
     }
 }

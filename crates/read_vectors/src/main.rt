@@ -7,8 +7,9 @@ ghost use Rattle.calculus.specs.Limits.{max_commands};
 ghost use Rattle.nodes.specs.Nodes.{capacity, max_capacity};
 ghost use Rattle.reader.specs.Commands.{all_words};
 
+use lexer::Fault;
 use nodes::child_base;
-use reader::{COMMAND_WORDS, ID_WORDS, NODE_WORDS, Whole, read_file};
+use reader::{COMMAND_WORDS, ID_WORDS, NODE_WORDS, Unread, read_file};
 use std::io;
 use std::io::Read;
 
@@ -87,9 +88,19 @@ fn put_read(
     commands: &mut [u16],
 ) -> io::Result<()> {
     match read_file(text, nodes, commands) {
-        Whole::All(k, n, c, _) => put_tables(rt, nodes, commands, k, n, c),
-        Whole::Refused(number, byte) => println!(rt; "refused={number} byte={byte}"),
-        Whole::Small => Ok(()),
+        Ok(whole) => put_tables(
+            rt,
+            nodes,
+            commands,
+            whole.commands,
+            whole.nodes,
+            whole.children,
+        ),
+        Err(Unread::Refused(Fault(reason, byte))) => {
+            let number = u8::from(reason);
+            println!(rt; "refused={number} byte={byte}")
+        }
+        Err(Unread::Small) => Ok(()),
     }
 }
 

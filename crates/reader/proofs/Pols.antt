@@ -2,6 +2,7 @@
 use mathlib.Core.Path.{◌≡◌, refl, sym, ap, subst, ◌∙◌}
 use mathlib.Core.Bool.{Bool, true, false, cond}
 use mathlib.Core.List.{List, [], ◌∷◌, ◌++◌}
+use mathlib.Core.Logic.{◌⊎◌, inl, inr}
 use Prim.Native.Nat.{ℕ, zero, suc, ◌+◌, ◌-◌, ◌≤◌, ◌<◌}
 use native.Mathlib.Nat.{not-suc-le-zero}
 use native.Mathlib.Omega.{arith}
@@ -16,17 +17,17 @@ use Rattle.calculus.specs.Terms.{PolWord, line_word, plain_word, Command, pol}
 use Rattle.calculus.specs.Limits.{known, max_text, max_commands, max_pols}
 use Rattle.heads.proofs.Answers.{item-more, item-last}
 use Rattle.heads.specs.PolHeads.{pol_word_of, PolWordIs, PolHeadIn}
-use Rattle.heads.specs.declared.NameAt.{NameAt}
-use Rattle.heads.specs.declared.NameAt.TheVariants.{Found, Other}
+use Rattle.heads.specs.Heads.{Step, Go, Off}
 use Rattle.heads.specs.declared.PolHead.{PolHead}
-use Rattle.heads.specs.declared.PolHead.TheVariants.{Plain, Negated, Add, Saturate, Times, Over, NoWord}
-use Rattle.heads.specs.declared.Step.{Step}
-use Rattle.heads.specs.declared.Step.TheVariants.{Go, Off}
+use Rattle.heads.specs.declared.PolHead.TheVariants.{Plain, Negated, Add, Saturate, Times, Over}
+use Rattle.std.specs.Prelude.{Result, Ok, Err}
+use Rattle.lexer.specs.Tokens.{reason_number}
+use Rattle.lexer.specs.declared.Fault.{Fault}
 use Rattle.nodes.specs.Nodes.{children_at, Below}
 use Rattle.nodes.proofs.Tables.{kept_refl}
 use Rattle.terms.specs.Index.{Fresh, Indexed}
 use Rattle.terms.specs.Spans.{max_short}
-use Rattle.terms.specs.declared.Read.TheVariants.{Made, Refused}
+use Rattle.terms.specs.Reading.{Made, Refused}
 use Rattle.reader.specs.Commands.{id_index, pol_kind, above_in, words_in, command_of, part_at, Put}
 use Rattle.reader.specs.Reading.{pol_with, Ids, NamedBy, NewId, ReadWord, ReadWords, ReadPol}
 use Rattle.reader.proofs.Ids.{known-above}
@@ -34,32 +35,58 @@ use Rattle.reader.proofs.Words.{put-pol, put-behind, put-short, put-spans, above
 
 -- ---- a word
 -- where the text goes on behind a word
-abbrev pub step_of : PolHead → Step
-step_of (Plain p t) = Go t
-step_of (Negated p t) = Go t
-step_of (Add t) = Go t
-step_of (Saturate t) = Go t
-step_of (Times m v t) = Go t
-step_of (Over m v t) = Go t
-step_of (NoWord e p) = Off e p
+abbrev pub end_of : PolHead → ℕ
+end_of (Plain p t) = t
+end_of (Negated p t) = t
+end_of (Add t) = t
+end_of (Saturate t) = t
+end_of (Times m v t) = t
+end_of (Over m v t) = t
 
-pub word-as : (s : List ℕ) (at : ℕ) (r h : PolHead) → PolWordIs s at r → PolHeadIn s at r → r ≡ h → ReadWord s at (step_of h)
-unfolding pol_word_of
-word-as s at r h q here e = go h (subst (PolWordIs s at) e q) (subst (PolHeadIn s at) e here)
-  where
-    either : (b : Bool) (x y : PolWord) (t n : ℕ) → cond b (got x t n) (got y t n) ≡ got (cond b x y) t n
-    either true x y t n = refl
-    either false x y t n = refl
+-- the word h is one of this kind, and ends at byte t
+abbrev PlainTo : PolHead → ℕ → Type 0
+PlainTo h t = (p : ℕ) × (h ≡ Plain p t)
 
-    go : (h : PolHead) → PolWordIs s at h → PolHeadIn s at h → ReadWord s at (step_of h)
-    go (Plain p t) q (a, b, c, d) =
-        (λ above. (cond (above (slice p t s)) (line_word (slice p t s)) (plain_word (slice p t s)), λ n. sym (q above n) ∙ either (above (slice p t s)) _ _ t n), omega arith, c)
-    go (Negated p t) q (a, b, c, d) = (λ above. (_, λ n. sym (q above n)), omega arith, c)
-    go (Add t) q (a, b) = (λ above. (_, λ n. sym (q above n)), a, b)
-    go (Saturate t) q (a, b) = (λ above. (_, λ n. sym (q above n)), a, b)
-    go (Times m v t) q (a, b, c, d) = (λ above. (_, λ n. sym (q above n)), c, d)
-    go (Over m v t) q (a, b, c, d) = (λ above. (_, λ n. sym (q above n)), c, d)
-    go (NoWord e p) q h = λ above n. sym (q above n)
+abbrev NegatedTo : PolHead → ℕ → Type 0
+NegatedTo h t = (p : ℕ) × (h ≡ Negated p t)
+
+abbrev TimesTo : PolHead → ℕ → Type 0
+TimesTo h t = (m : Bool) × (v : ℕ) × (h ≡ Times m v t)
+
+abbrev OverTo : PolHead → ℕ → Type 0
+OverTo h t = (m : Bool) × (v : ℕ) × (h ≡ Over m v t)
+
+end-is : (h : PolHead) (t : ℕ) → PlainTo h t ⊎ (NegatedTo h t ⊎ ((h ≡ Add t) ⊎ ((h ≡ Saturate t) ⊎ (TimesTo h t ⊎ OverTo h t)))) → end_of h ≡ t
+end-is h t (inl (p, e)) = ap end_of e
+end-is h t (inr (inl (p, e))) = ap end_of e
+end-is h t (inr (inr (inl e))) = ap end_of e
+end-is h t (inr (inr (inr (inl e)))) = ap end_of e
+end-is h t (inr (inr (inr (inr (inl (m, v, e)))))) = ap end_of e
+end-is h t (inr (inr (inr (inr (inr (m, v, e)))))) = ap end_of e
+
+module _ (s : List ℕ) (at : ℕ) (r : Result PolHead Fault) (q : PolWordIs s at r) (here : PolHeadIn s at r) where
+  pub word-refused : (e : Fault) → r ≡ Err e → ReadWord s at (Off (reason_number e.0) e.1)
+  word-refused e x = go (subst (PolWordIs s at) x q)
+    where
+      go : PolWordIs s at (Err e) → ReadWord s at (Off (reason_number e.0) e.1)
+      go w = λ above n. sym (w above n)
+
+  pub word-read : (h : PolHead) → r ≡ Ok h → (t : ℕ) → PlainTo h t ⊎ (NegatedTo h t ⊎ ((h ≡ Add t) ⊎ ((h ≡ Saturate t) ⊎ (TimesTo h t ⊎ OverTo h t)))) → ReadWord s at (Go t)
+  unfolding pol_word_of
+  word-read h x t o = subst (λ (i : ℕ). ReadWord s at (Go i)) (end-is h t o) (go h (subst (PolWordIs s at) x q) (subst (PolHeadIn s at) x here))
+    where
+      either : (b : Bool) (x y : PolWord) (t n : ℕ) → cond b (got x t n) (got y t n) ≡ got (cond b x y) t n
+      either true x y t n = refl
+      either false x y t n = refl
+
+      go : (h : PolHead) → PolWordIs s at (Ok h) → PolHeadIn s at (Ok h) → ReadWord s at (Go (end_of h))
+      go (Plain p t) q (a, b, c, d) =
+          (λ above. (cond (above (slice p t s)) (line_word (slice p t s)) (plain_word (slice p t s)), λ n. sym (q above n) ∙ either (above (slice p t s)) _ _ t n), omega arith, c)
+      go (Negated p t) q (a, b, c, d) = (λ above. (_, λ n. sym (q above n)), omega arith, c)
+      go (Add t) q (a, b) = (λ above. (_, λ n. sym (q above n)), a, b)
+      go (Saturate t) q (a, b) = (λ above. (_, λ n. sym (q above n)), a, b)
+      go (Times m v t) q (a, b, c, d) = (λ above. (_, λ n. sym (q above n)), c, d)
+      go (Over m v t) q (a, b, c, d) = (λ above. (_, λ n. sym (q above n)), c, d)
 
 -- ---- the words up to the closing bracket
 -- some words were read, and a word has to stand at i
@@ -88,13 +115,16 @@ module _ (s : List ℕ) (at i : ℕ) (I : Inv s at i) (r : Step) (W : ReadWord s
     behind above = let (ws, f) = I.follows above in let (w, g) = word-is.0 above in (ws ++ (w ∷ []), λ n. f n ∙ rw (g n))
 
     module _ (e : ℕ) (q : e ≡ close_at s next) where
-      pub words-closed : (e ≡ 0 → ⊥) → ((e ≡ 0 → ⊥) → next < e) → e ≤ length s → ReadWords s at (Go e)
+      pub words-closed : next < e → e ≤ length s → ReadWords s at (Go e)
       unfolding more_words
-      words-closed h later inside = (λ above. let (ws, f) = behind above in (ws, λ n. f n ∙ closed above ws n I.fuel I.left), omega (arith, I.later, word-is.1, later h), inside)
+      words-closed later inside = (λ above. let (ws, f) = behind above in (ws, λ n. f n ∙ closed above ws n I.fuel I.left), omega (arith, I.later, word-is.1, later), inside)
         where
+          some : e ≡ 0 → ⊥
+          some z = omega (arith, later)
+
           closed : (above : List ℕ → Bool) (ws : List PolWord) (n f : ℕ) → length s - i < f → more_words f above s next n ws ≡ got ws e n
           closed above ws n zero l = absurd (not-suc-le-zero l)
-          closed above ws n (suc f) l = item-last s next n _ ws e q h
+          closed above ws n (suc f) l = item-last s next n _ ws e q some
 
       pub words-again : e ≡ 0 → Inv s at next
       unfolding more_words
@@ -116,17 +146,17 @@ module _ (s w : List ℕ) (b at k n c p : ℕ) (place : at ≤ length s) (rest :
   unfolding pol_with
   pol-full h t y T N cs M = rw (le-ltb p max_pols h)
 
-  module _ (h : p < max_pols) (r : NameAt) (N : NewId s w k at r) where
+  module _ (h : p < max_pols) (r : Result (ℕ × ℕ) Fault) (N : NewId s w k at r) where
     within : (cs : List Command) → pol_with p cs s b at n ≡ pol_at cs s at n
     unfolding pol_with
     within cs = rw (lt-ltb p max_pols h)
 
-    pub pol-named-refused : (e a : ℕ) → r ≡ Other e a → ReadPol s w w b at k n c p (Refused e a)
+    pub pol-named-refused : (e : Fault) → r ≡ Err e → ReadPol s w w b at k n c p (Refused (reason_number e.0) e.1)
     unfolding pol_at
-    pol-named-refused e a q t y T L cs M = within cs ∙ (subst (NewId s w k at) q N) cs M _
+    pol-named-refused e q t y T L cs M = within cs ∙ (subst (NewId s w k at) q N) cs M _
 
-    module _ (from to : ℕ) (q : r ≡ Found from to) where
-      found : NewId s w k at (Found from to)
+    module _ (from to : ℕ) (q : r ≡ Ok (from, to)) where
+      found : NewId s w k at (Ok (from, to))
       found = subst (NewId s w k at) q N
 
       -- what read_words asks

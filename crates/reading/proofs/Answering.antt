@@ -9,9 +9,7 @@ use lib.Seq.{take_at}
 use Rattle.calculus.specs.Commands.{read_file, refused}
 use Rattle.calculus.specs.Report.{min_table}
 use Rattle.theorems.proofs.Proper.{proper}
-use Rattle.reader.specs.Reading.{ReadsFile}
-use Rattle.reader.specs.declared.Whole.{Whole}
-use Rattle.reader.specs.declared.Whole.TheVariants.{All, Refused, Small}
+use Rattle.reader.specs.Reading.{Whole, All, Refused, Small, ReadsFile}
 use Rattle.reading.specs.Answer.{Lent, Answers}
 
 -- something lent is too small

@@ -3,8 +3,7 @@ use Rattle.std.specs.Prelude.{◌≡◌, List, ℕ, zero, suc, ◌≤◌, length
 use Rattle.calculus.specs.Commands.{read_file, refused}
 use Rattle.calculus.specs.Report.{min_table}
 use Rattle.reader.specs.Commands.{all_words}
-use Rattle.reader.specs.Reading.{ReadsFile}
-use Rattle.reader.specs.declared.Whole.TheVariants.{All}
+use Rattle.reader.specs.Reading.{All, ReadsFile}
 
 -- the words of an answer
 abbrev pub answer_words : ℕ

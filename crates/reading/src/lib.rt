@@ -3,7 +3,8 @@
 
 ghost use Rattle.reading.specs.Answer.{Answers};
 
-use reader::{COMMAND_WORDS, NODE_WORDS, Whole, read_file};
+use lexer::Fault;
+use reader::{COMMAND_WORDS, NODE_WORDS, Unread, read_file};
 
 // The words of the answer.
 const ANSWER_WORDS: usize = 3;
@@ -33,16 +34,16 @@ pub fn cutting_planes_read(
         return TOO_SMALL;
     }
     match read_file(text, &mut nodes[0..NODE_WORDS], commands) {
-        Whole::All(k, n, c, _) => {
-            answer[0] = k;
-            answer[1] = n;
-            answer[2] = c;
+        Ok(whole) => {
+            answer[0] = whole.commands;
+            answer[1] = whole.nodes;
+            answer[2] = whole.children;
             READ
         }
-        Whole::Refused(number, byte) => {
+        Err(Unread::Refused(Fault(reason, byte))) => {
             answer[0] = byte;
-            number as usize
+            u8::from(reason) as usize
         }
-        Whole::Small => TOO_SMALL,
+        Err(Unread::Small) => TOO_SMALL,
     }
 }

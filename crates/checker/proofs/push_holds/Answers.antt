@@ -1,5 +1,6 @@
 -- `checker::push_holds` owes whether what a word pushes is marked, by its head: only a name can be an id above.
 use mathlib.Core.Path.{subst}
+use Rattle.std.specs.Prelude.{Ok}
 use native.Mathlib.Omega.{arith}
 use Rattle.heads.specs.PolHeads.{PolHeadIn}
 use Rattle.heads.specs.declared.PolHead.{PolHead}
@@ -7,7 +8,7 @@ use Rattle.checker.proofs.Pushing.{push-id, push-name, push-as}
 use Rattle.checker.proofs.push_holds.Goals as goal
 
 pub place_of-j-requires : goal.place_of-j-requires
-place_of-j-requires c = let h = subst (λ (h : PolHead). PolHeadIn c.args.text.now c.requires.3.0 h) c.in-Plain.is c.requires.3.1 in (c.requires.0.spans, c.requires.0.indexed, omega (arith, h.1), h.2)
+place_of-j-requires c = let h = subst (λ (h : PolHead). PolHeadIn c.args.text.now c.requires.3.0 (Ok h)) c.in-Plain.is c.requires.3.1 in (c.requires.0.spans, c.requires.0.indexed, omega (arith, h.1), h.2)
 
 pub returns-then-j-k : goal.returns-then-j-k
 returns-then-j-k c = rw c.in-Plain.is (push-id c.args.text.now c.args.commands.now c.args.k c.args.marks.now _ _ c.requires.1 c.place_of-j.ensures.0 (omega (arith, c.if-j-k.true)))
@@ -29,6 +30,3 @@ returns-in-Times c = push-as c.args.text.now c.args.commands.now c.args.k c.args
 
 pub returns-in-Over : goal.returns-in-Over
 returns-in-Over c = push-as c.args.text.now c.args.commands.now c.args.k c.args.marks.now c.in-Over.is tt
-
-pub returns-in-NoWord : goal.returns-in-NoWord
-returns-in-NoWord c = push-as c.args.text.now c.args.commands.now c.args.k c.args.marks.now c.in-NoWord.is tt

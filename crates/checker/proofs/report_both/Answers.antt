@@ -7,7 +7,7 @@ use Rattle.checker.proofs.Reporting.{opb-long}
 use Rattle.checker.proofs.report_both.Goals as goal
 
 pub returns-then-opb-gt-MAX_TEXT : goal.returns-then-opb-gt-MAX_TEXT
-returns-then-opb-gt-MAX_TEXT c = opb-long c.args.opb.now c.args.text.now c.if-opb-gt-MAX_TEXT.true c.write_refusal.ensures
+returns-then-opb-gt-MAX_TEXT c = opb-long c.args.opb.now c.args.text.now c.if-opb-gt-MAX_TEXT.true (rw c.from.ensures at c.write_refusal.ensures)
 
 pub join-size-requires : goal.join-size-requires
 join-size-requires c = (omega (arith, length-replicate {A = ℕ} 67476 0), omega (arith, c.if-opb-gt-MAX_TEXT.false))

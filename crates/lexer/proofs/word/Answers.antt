@@ -12,7 +12,7 @@ pub returns-then-k-lt-OPERATORS : goal.returns-then-k-lt-OPERATORS
 returns-then-k-lt-OPERATORS c = (word-op c.args.text.now c.args.from c.args.to (sym c.if-numeral_first.false ∙ c.numeral_first.ensures) c.fixed-k.result c.fixed-k.ensures.0 c.if-k-lt-OPERATORS.true, search rules)
 
 pub returns-then-k-lt-WORDS : goal.returns-then-k-lt-WORDS
-returns-then-k-lt-WORDS c = (word-mark c.args.text.now c.args.from c.args.to (sym c.if-numeral_first.false ∙ c.numeral_first.ensures) c.fixed-k.result c.fixed-k.ensures.0 c.if-k-lt-OPERATORS.false c.if-k-lt-WORDS.true, search rules)
+returns-then-k-lt-WORDS c = (word-mark c.args.text.now c.args.from c.args.to (sym c.if-numeral_first.false ∙ c.numeral_first.ensures) c.fixed-k.result c.fixed-k.ensures.0 c.if-k-lt-OPERATORS.false c.if-k-lt-WORDS.true c.fixed_mark.result c.fixed_mark.ensures, search rules)
 
 pub is_name-requires : goal.is_name-requires
 is_name-requires c = c.requires

@@ -1,25 +1,23 @@
 -- `lines::run_word` owes what a word makes of the stack, by its head.
 use mathlib.Core.Path.{subst}
+use Rattle.std.specs.Prelude.{Ok}
 use Rattle.heads.specs.PolHeads.{PolHeadIn}
 use Rattle.heads.specs.declared.PolHead.{PolHead}
 use Rattle.heads.specs.declared.PolHead.TheVariants.{Negated}
-use Rattle.lines.proofs.Doing.{none_done, add_done, saturate_done, times-done, over_done, negated-head}
+use Rattle.lines.proofs.Doing.{add_done, saturate_done, times-done, over_done, negated-head}
 use Rattle.lines.proofs.run_word.Goals as goal
 
 pub run_name-requires : goal.run_name-requires
-run_name-requires c = let h = subst (λ (h : PolHead). PolHeadIn c.args.text.now c.requires.head_in.0 h) c.in-Plain.is c.requires.head_in.1 in (c.requires.going.0, c.requires.going.1, h.1, h.2, h.3)
+run_name-requires c = let h = subst (λ (h : PolHead). PolHeadIn c.args.text.now c.requires.head_in.0 (Ok h)) c.in-Plain.is c.requires.head_in.1 in (c.requires.going.0, c.requires.going.1, h.1, h.2, h.3)
 
 pub run_literal-requires : goal.run_literal-requires
-run_literal-requires c = let h = subst (λ (h : PolHead). PolHeadIn c.args.text.now c.requires.head_in.0 h) c.in-Negated.is c.requires.head_in.1 in ((c.requires.going.0.c, c.args.slots.now, c.requires.going.0.running), c.requires.going.1, h.1, h.2, h.3)
+run_literal-requires c = let h = subst (λ (h : PolHead). PolHeadIn c.args.text.now c.requires.head_in.0 (Ok h)) c.in-Negated.is c.requires.head_in.1 in ((c.requires.going.0.c, c.args.slots.now, c.requires.going.0.running), c.requires.going.1, h.1, h.2, h.3)
 
 pub times_top-number-requires : goal.times_top-number-requires
-times_top-number-requires c = let h = subst (λ (h : PolHead). PolHeadIn c.args.text.now c.requires.head_in.0 h) c.in-Times.is c.requires.head_in.1 in ((c.args.nodes.now, c.requires.going.0.running.stack), h.0)
+times_top-number-requires c = let h = subst (λ (h : PolHead). PolHeadIn c.args.text.now c.requires.head_in.0 (Ok h)) c.in-Times.is c.requires.head_in.1 in ((c.args.nodes.now, c.requires.going.0.running.stack), h.0)
 
 pub over_top-number-requires : goal.over_top-number-requires
-over_top-number-requires c = let h = subst (λ (h : PolHead). PolHeadIn c.args.text.now c.requires.head_in.0 h) c.in-Over.is c.requires.head_in.1 in ((c.args.nodes.now, c.requires.going.0.running.stack), h.0)
-
-pub returns-in-NoWord : goal.returns-in-NoWord
-returns-in-NoWord c = rw c.in-NoWord.is (none_done c.requires.going.0.running)
+over_top-number-requires c = let h = subst (λ (h : PolHead). PolHeadIn c.args.text.now c.requires.head_in.0 (Ok h)) c.in-Over.is c.requires.head_in.1 in ((c.args.nodes.now, c.requires.going.0.running.stack), h.0)
 
 pub returns-in-Plain : goal.returns-in-Plain
 returns-in-Plain c = rw c.in-Plain.is c.run_name.ensures

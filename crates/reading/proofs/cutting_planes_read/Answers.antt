@@ -1,5 +1,7 @@
 -- `reading::cutting_planes_read` owes the answer of each of its ends.
-use mathlib.Core.Path.{◌∙◌}
+use Rattle.std.specs.Prelude.{Err}
+use Rattle.reader.specs.Reading.{file_of}
+use mathlib.Core.Path.{ap, ◌∙◌}
 use native.Mathlib.Omega.{arith}
 use lib.ListN.{length-set}
 use lib.Seq.{length-take-le}
@@ -23,18 +25,18 @@ pub bounds-answer-1 : goal.bounds-answer-1
 bounds-answer-1 c =
     rw length-set (omega (arith, c.if-answer-lt-ANSWER_WORDS.false))
 
-pub returns-in-All : goal.returns-in-All
-returns-in-All c =
+pub returns-in-Ok : goal.returns-in-Ok
+returns-in-Ok c =
     let large : Lent c.args.nodes.now c.args.commands.now c.args.answer.now = record { nodes = omega (arith, c.if-nodes-lt-NODE_WORDS.false); commands = omega (arith, c.if-commands-lt-COMMAND_WORDS.false); answer = omega (arith, c.if-answer-lt-ANSWER_WORDS.false) } in
-    read c.args.text.now c.args.nodes.now _ c.read_file.new.nodes _ c.args.commands.now c.read_file.new.commands c.args.answer.now c.read_file.result _ _ _ _ large (c.read_file.auto.nodes ∙ length-take-le 16384 c.args.nodes.now large.nodes) c.read_file.ensures c.in-All.is
+    read c.args.text.now c.args.nodes.now _ c.read_file.new.nodes _ c.args.commands.now c.read_file.new.commands c.args.answer.now (file_of c.read_file.result) _ _ _ _ large (c.read_file.auto.nodes ∙ length-take-le 16384 c.args.nodes.now large.nodes) c.read_file.ensures (ap file_of c.in-Ok.is)
 
-pub returns-in-Refused : goal.returns-in-Refused
-returns-in-Refused c =
+pub returns-in-Err-Refused : goal.returns-in-Err-Refused
+returns-in-Err-Refused c =
     let large : Lent c.args.nodes.now c.args.commands.now c.args.answer.now = record { nodes = omega (arith, c.if-nodes-lt-NODE_WORDS.false); commands = omega (arith, c.if-commands-lt-COMMAND_WORDS.false); answer = omega (arith, c.if-answer-lt-ANSWER_WORDS.false) } in
-    refuses c.args.text.now c.args.nodes.now _ c.read_file.new.nodes _ c.args.commands.now c.read_file.new.commands c.args.answer.now c.read_file.result _ _ large c.read_file.ensures c.in-Refused.is
+    rw c.from.ensures (refuses c.args.text.now c.args.nodes.now _ c.read_file.new.nodes _ c.args.commands.now c.read_file.new.commands c.args.answer.now (file_of c.read_file.result) _ _ large c.read_file.ensures (ap file_of (c.in-Err-Refused.is ∙ ap Err c.in-Err-Refused.field-0-is)))
 
-pub returns-in-Small : goal.returns-in-Small
-returns-in-Small c =
+pub returns-in-Err-Small : goal.returns-in-Err-Small
+returns-in-Err-Small c =
     let large : Lent c.args.nodes.now c.args.commands.now c.args.answer.now = record { nodes = omega (arith, c.if-nodes-lt-NODE_WORDS.false); commands = omega (arith, c.if-commands-lt-COMMAND_WORDS.false); answer = omega (arith, c.if-answer-lt-ANSWER_WORDS.false) } in
-    let z : ⊥ = never c.args.text.now c.args.nodes.now _ c.read_file.new.nodes c.args.commands.now c.read_file.new.commands c.args.answer.now c.read_file.result large (length-take-le 16384 c.args.nodes.now large.nodes) c.read_file.ensures c.in-Small.is in
+    let z : ⊥ = never c.args.text.now c.args.nodes.now _ c.read_file.new.nodes c.args.commands.now c.read_file.new.commands c.args.answer.now (file_of c.read_file.result) large (length-take-le 16384 c.args.nodes.now large.nodes) c.read_file.ensures (ap file_of (c.in-Err-Small.is ∙ ap Err c.in-Err-Small.field-0-is)) in
     absurd z
