@@ -199,7 +199,7 @@ fn pushes_hold(text: &[u8], commands: &[u16], all: usize, k: usize, marks: &[boo
         if !push_holds(text, commands, all, k, head, marks) {
             return false;
         }
-        i = behind(head);
+        i = behind(Ok(head));
         if closes(text, i).is_some() {
             return true;
         }

@@ -1,5 +1,5 @@
 -- What is known while a pol line runs (02, No. 2), and what its parts answer: word by word, the whole line, all lines of a file.
-use Rattle.std.specs.Prelude.{◌≡◌, Ok, Bool, false, cond, ◌||◌, List, [], ◌∷◌, map, ℕ, ◌+◌, ◌≤◌, ◌<◌, T, ℤ, length}
+use Rattle.std.specs.Prelude.{◌≡◌, Result, Ok, Err, Bool, false, cond, ◌||◌, List, [], ◌∷◌, map, ℕ, ◌+◌, ◌≤◌, ◌<◌, T, ℤ, length}
 use Rattle.calculus.specs.Commands.{enough}
 use Rattle.calculus.specs.Entries.{Lit, Inequality}
 use Rattle.calculus.specs.Grammar.{got}
@@ -15,6 +15,7 @@ use Rattle.wider.specs.Widening.{AllFirst}
 use Rattle.reader.specs.Commands.{word_at, clause_word, part_at, above_in}
 use Rattle.reader.specs.Reading.{Ids}
 use Rattle.links.specs.Steps.{AllUnder, Clause}
+use Rattle.lexer.specs.declared.Fault.{Fault}
 use Rattle.heads.specs.PolHeads.{pol_word_of, PolHeadIn}
 use Rattle.heads.specs.declared.PolHead.{PolHead}
 use Rattle.heads.specs.declared.PolHead.TheVariants.{Plain, Negated, Add, Saturate, Times, Over}
@@ -100,7 +101,7 @@ abbrev pub LiteralRun : (s t u y z : List ℕ) (b : Bool) (x : List ℕ) (cs : L
 LiteralRun s t u y z b x cs ks m d ds ls r = (c : ℕ) (sl : List ℕ) → Running s t y cs ks sl m c d → LiteralDone s t u z b x cs ks m d ds ls sl r
 
 -- ---- a line
--- where the text goes on behind a word
+-- where the text goes on behind a head
 abbrev pub behind_of : PolHead → ℕ
 behind_of (Plain p t) = t
 behind_of (Negated p t) = t
@@ -108,6 +109,11 @@ behind_of (Add t) = t
 behind_of (Saturate t) = t
 behind_of (Times m v t) = t
 behind_of (Over m v t) = t
+
+-- behind a word; 0 where none stands
+abbrev pub behind_word : Result PolHead Fault → ℕ
+behind_word (Ok head) = behind_of head
+behind_word (Err fault) = 0
 
 -- room for the names that a line can bring: one for each literal on the stack
 abbrev pub max_names : ℕ

@@ -13,12 +13,13 @@ ghost use Rattle.reader.specs.Commands.{all_words, word_at, kind_word, pol_kind,
 ghost use Rattle.opb.specs.Counts.{negations, inequality_nodes};
 ghost use Rattle.opb.specs.Summands.{summand_words, summands_of};
 ghost use Rattle.opb_terms.specs.Making.{Making, InequalityPut};
-ghost use Rattle.lines.specs.Running.{Above, Running, Going, WordDone, HeadIn, Runs, LiteralRun, behind_of, max_names, WordsRun};
+ghost use Rattle.lines.specs.Running.{Above, Running, Going, WordDone, HeadIn, Runs, LiteralRun, behind_of, behind_word, max_names, WordsRun};
 ghost use Rattle.lines.specs.Lines.{LeftIs, LineRun, PartPut, CommandRun, LinesReady, LinesRun};
 ghost use Rattle.terms.specs.Spans.{max_short};
 
 use ending::{finish, magnitude};
 use heads::{MAX_NODES, PolHead, closes, pol_word};
+use lexer::Fault;
 use links::{CLAUSE_WORD, KIND_WORD, word_of};
 use matching::MISCOUNTED;
 use nodes::wide_short;
@@ -177,14 +178,24 @@ fn run_word(
     }
 }
 
-// Where the text goes on behind a word.
-pub fn behind(head: PolHead) -> usize
+// Where the text goes on behind a head.
+fn end_of(head: PolHead) -> usize
     ensures { result ≡ behind_of head }
 {
     match head {
         PolHead::Plain(_, t) | PolHead::Negated(_, t) => t,
         PolHead::Add(t) | PolHead::Saturate(t) => t,
         PolHead::Times(_, _, t) | PolHead::Over(_, _, t) => t,
+    }
+}
+
+// Where the text goes on behind a word; 0 where none stands.
+pub fn behind(word: Result<PolHead, Fault>) -> usize
+    ensures { result ≡ behind_word word }
+{
+    match word {
+        Ok(head) => end_of(head),
+        Err(_) => 0,
     }
 }
 
@@ -228,7 +239,7 @@ fn run_words(
             };
         }
         d = word.entries;
-        i = behind(head);
+        i = behind(Ok(head));
         if closes(text, i).is_some() {
             if d != 1 {
                 return Worked {

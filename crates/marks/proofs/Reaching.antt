@@ -25,6 +25,7 @@ use Rattle.nodes.proofs.Tables.{below_at, below_more}
 use Rattle.matching.specs.Matched.{Text, term, ConstantAt, PairAt, lit_at, variable_of, negated_of, SplitIs}
 use Rattle.matching.proofs.Checks.{bind-of, bind-bad, or_of, or-bad}
 use Rattle.sums.specs.Found.{SummandAt}
+use Rattle.sums.specs.Lists.{max_total}
 use Rattle.sums.proofs.Reading.{all_cons, all_nil, drop_end, sum-40, by_lone}
 use Rattle.theorems.proofs.GreatestLaws.{total-bound}
 use Rattle.theorems.proofs.SumLaws.{same_lit-eq, scale, Distinct, total, total-put, distinct-put}
@@ -78,6 +79,13 @@ reach-start t ts = record {
 }
 
 module _ {t ts : List ℕ} {ones zeros : ℤ} {i : ℕ} (R : Reaching t ts ones zeros i) where
+  module _ (few : length ts ≤ max_summands) (most : i ≤ length ts) where
+    pub ones-within : Within max_total ones
+    ones-within = within_more (omega arith) R.within-ones
+
+    pub zeros_within : Within max_total zeros
+    zeros_within = within_more (omega arith) R.within-zeros
+
   -- a term that is no summand
   pub reach-refused : i < length ts → (number : ℕ) → ((s : List ℕ) → summand (decode s t (get_or ts i 0)) ≡ bad number) → (z : ℤ) → ReachIs t ts z true
   reach-refused h number B z e x b =

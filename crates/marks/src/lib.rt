@@ -139,29 +139,34 @@ fn greatest(nodes: &[u32], coeffs: &[i64], keys: &[u32], slots: &[u16], at: usiz
 }
 
 // ---- lines within reach
+// The values of a sum where each name is 1, and where each is 0.
+#[derive(Clone, Copy)]
+pub struct Ends {
+    pub ones: i64,
+    pub zeros: i64,
+}
+
 // Whether the terms ts, no lone numeral, are no sum, or one that is at least the constant where each name is 1, or where each is 0.
 fn reach(nodes: &[u32], ts: &[u32], constant: i64) -> bool
     requires all_nodes { AllNodes nodes.now ts.now × (length ts.now ≤ max_summands) }
     requires within { Within max_numeral constant }
     ensures { ReachIs nodes.now ts.now constant result }
 {
-    // the values of the sum where each name is 1, and where each is 0
-    let mut ones = 0;
-    let mut zeros = 0;
+    let mut ends = Ends { ones: 0, zeros: 0 };
     for t in ts {
         let Ok((key, c)) = read_summand(nodes, *t) else {
             return true;
         };
         if matching::negated_of(key) {
-            zeros = integer::add(zeros, c);
+            ends.zeros = integer::add(ends.zeros, c);
         } else {
-            ones = integer::add(ones, c);
+            ends.ones = integer::add(ends.ones, c);
         }
     }
-    if integer::at_most(constant, ones) {
+    if integer::at_most(constant, ends.ones) {
         return true;
     }
-    integer::at_most(constant, zeros)
+    integer::at_most(constant, ends.zeros)
 }
 
 // Whether the terms ts, no lone numeral, are no sum over names: a sum over other terms is not made, since their keys are found by walking.

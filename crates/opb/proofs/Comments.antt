@@ -1,7 +1,6 @@
 -- Laws of blanks and comments outside constraints.
 use mathlib.Core.Path.{◌≡◌, refl, sym, ◌∙◌}
 use mathlib.Core.Bool.{Bool, true, false, not, cond}
-use mathlib.Core.Logic.{◌⊎◌, inl, inr}
 use mathlib.Core.List.{List}
 use Prim.Native.Nat.{ℕ, zero, suc, ◌+◌, ◌-◌, ◌≤◌, ◌<◌}
 use native.Mathlib.Numerals.{add-one}
@@ -42,17 +41,27 @@ module _ (p : places.Place) (b : ℕ) where
   unfolding passed
   comment_passes r h e = rw h e
 
-  pub later_passes : (r : Bool) → p ≡ Later → r ≡ is_blank b → r ≡ passed (place_of p) b
+  pub blank-passes : (p ≡ Comment → ⊥) → is_blank b ≡ true → true ≡ passed (place_of p) b
   unfolding passed
-  later_passes r h e = rw h e
-
-  pub blank-passes : p ≡ First → is_blank b ≡ true → true ≡ passed (place_of p) b
-  unfolding passed
-  blank-passes h e = rw (h, e)
+  blank-passes h e = go p refl
+    where
+      go : (q : places.Place) → p ≡ q → true ≡ passed (place_of q) b
+      go First f = rw e
+      go Later f = rw e
+      go Comment f = absurd (h f)
 
   pub star_passes : (r : Bool) → p ≡ First → is_blank b ≡ false → r ≡ eqb b (byte "*") → r ≡ passed (place_of p) b
   unfolding passed
   star_passes r h e k = rw (h, e) k
+
+  pub none_passes : (p ≡ Comment → ⊥) → (p ≡ First → ⊥) → is_blank b ≡ false → false ≡ passed (place_of p) b
+  unfolding passed
+  none_passes h k e = go p refl
+    where
+      go : (q : places.Place) → p ≡ q → false ≡ passed (place_of q) b
+      go First f = absurd (k f)
+      go Later f = rw e
+      go Comment f = absurd (h f)
 
   pub next-line : b ≡ 10 → place_of First ≡ next_place (place_of p) b
   unfolding next_place
@@ -71,10 +80,14 @@ module _ (p : places.Place) (b : ℕ) where
   unfolding next_place
   next-later n h e = rw (h, ne_eqb b 10 n, ne_eqb b (byte "*") e)
 
-  pub next-same : (b ≡ 10 → ⊥) → (p ≡ Later) ⊎ (p ≡ Comment) → place_of p ≡ next_place (place_of p) b
+  pub next-same : (b ≡ 10 → ⊥) → (p ≡ First → ⊥) → place_of p ≡ next_place (place_of p) b
   unfolding next_place
-  next-same n (inl h) = rw (h, ne_eqb b 10 n)
-  next-same n (inr h) = rw (h, ne_eqb b 10 n)
+  next-same n h = go p refl
+    where
+      go : (q : places.Place) → p ≡ q → place_of q ≡ next_place (place_of q) b
+      go First f = absurd (h f)
+      go Later f = rw (ne_eqb b 10 n)
+      go Comment f = rw (ne_eqb b 10 n)
 
 -- ---- the run
 gap-end : (c : Place) (s : List ℕ) (i : ℕ) → length s ≤ i → gap c (drop i s) ≡ 0

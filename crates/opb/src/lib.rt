@@ -108,11 +108,16 @@ fn place_at(text: &[u8], at: usize) -> Place
 fn passes(place: Place, b: u8) -> bool
     ensures { result ≡ passed (place_of place) b }
 {
-    match place {
-        Place::First => is_blank(b) || b == b'*',
-        Place::Later => is_blank(b),
-        Place::Comment => printable(b),
+    if let Place::Comment = place {
+        return printable(b);
     }
+    if is_blank(b) {
+        return true;
+    }
+    if let Place::First = place {
+        return b == b'*';
+    }
+    false
 }
 
 // The place behind b.
@@ -122,11 +127,13 @@ fn next_place(place: Place, b: u8) -> Place
     if b == b'\n' {
         return Place::First;
     }
-    match place {
-        Place::First if b == b'*' => Place::Comment,
-        Place::First => Place::Later,
-        Place::Later | Place::Comment => place,
+    if let Place::First = place {
+        if b == b'*' {
+            return Place::Comment;
+        }
+        return Place::Later;
     }
+    place
 }
 
 // The first byte from `at` on, outside constraints, that is no blank and no byte of a comment, or the text's end.

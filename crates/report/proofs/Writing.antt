@@ -5,10 +5,8 @@ use native.Mathlib.Nat.{add-zero}
 use native.Mathlib.Numerals.{add-one}
 use native.Mathlib.Omega.{arith}
 use mathlib.Core.List.{List, [], ◌∷◌, ◌++◌, append_assoc, append-nil}
-use lib.ListN.{length, set, take, drop, length-append, length-set, take-append-drop}
-use lib.Seq.{length-take-le, length-paste, paste, set_split, take_at, drop_at, drop-append-add, drop-drop, take_all}
-use borrow.Rule.Slice.PartMut.{put_mid}
-use Rattle.std.proofs.lemmas.Slice.{put_mid-paste}
+use lib.ListN.{length, get_or, set, take, drop, length-append, length-set, take-append-drop}
+use lib.Seq.{length-take-le, set_split, take_at, drop_at, drop-append-add, drop-drop, take-suc, take_all}
 use Rattle.report.specs.Written.{put, Wrote}
 
 -- ---- what is put
@@ -53,18 +51,6 @@ wrote-byte d at b h = record {
   same = set_split d at b h ∙ sym (append_assoc (take at d) (b ∷ []) (drop (suc at) d)) ∙ ap (λ (k : ℕ). take at d ++ (b ∷ []) ++ drop k d) (sym (add-one at));
 }
 
--- all of s, copied over the part of d that begins at `at`
-pub wrote-part : (d s : List ℕ) (at k : ℕ) {t : List ℕ} → at + length s ≤ length d → k ≡ length s → t ≡ s → Wrote d at s (put_mid at k d t) (at + length s)
-unfolding put
-wrote-part d s at k {t} h e q =
-    let p : put_mid at k d t ≡ paste d at s (length s) = put_mid-paste at k d t s (length s) q (sym e) refl in
-    record {
-      next = refl;
-      room = h;
-      size = ap length p ∙ length-paste d at s (length s) h (omega arith);
-      same = p ∙ ap (λ (x : List ℕ). take at d ++ x ++ drop (at + length s) d) (take_all (length s) s (omega arith));
-    }
-
 infixl 40 ◌⨟◌
 -- one piece after another
 pub ◌⨟◌ : {d e f s t : List ℕ} {at n r : ℕ} → Wrote d at s e n → Wrote e n t f r → Wrote d at (s ++ t) f r
@@ -81,6 +67,18 @@ pub ◌⨟◌ : {d e f s t : List ℕ} {at n r : ℕ} → Wrote d at s e n → W
           ∙ ap (λ (k : ℕ). put (put d at s) k t) v.next
           ∙ put-put d at s i t;
     }
+
+-- a turn of the loop that copies s
+pub wrote-more : (s : List ℕ) (j : ℕ) {d e : List ℕ} {at o : ℕ} → Wrote d at (take j s) e o → j < length s → o < length e
+    → Wrote d at (take (j + 1) s) (set e o (get_or s j 0)) (o + 1)
+wrote-more s j {d} {e} {at} {o} w h k =
+    subst (λ (x : List ℕ). Wrote d at x (set e o (get_or s j 0)) (o + 1))
+    (sym (take-suc s j 0 h) ∙ ap (λ (n : ℕ). take n s) (sym (add-one j)))
+    (w ⨟ wrote-byte e o (get_or s j 0) k)
+
+-- all of s was copied
+pub wrote-all : (s : List ℕ) (j : ℕ) {d e : List ℕ} {at o : ℕ} → Wrote d at (take j s) e o → length s ≤ j → Wrote d at s e o
+wrote-all s j {d} {e} {at} {o} w h = subst (λ (x : List ℕ). Wrote d at x e o) (take_all j s h) w
 
 -- the same bytes under another name
 pub wrote_as : {d e s t : List ℕ} {at r : ℕ} → t ≡ s → Wrote d at s e r → Wrote d at t e r

@@ -21,14 +21,16 @@ const ZERO: usize = 48;
 const BASE: usize = 10;
 
 // ---- pieces
-// Writes src from byte `at` on, and answers the place behind it.
+// Writes src from byte `at` on, and answers the place behind it. A loop: of copy_from_slice the compiler makes a call of memmove here, and a
+// program in C need bring memcpy and memset alone.
 pub fn append(report: &mut [u8], at: usize, src: &[u8]) -> usize
     requires { at + length src.now ≤ length report.old }
     ensures { Wrote report.old at src.now report.new result }
 {
-    let end = at + src.len();
-    report[at..end].copy_from_slice(src);
-    end
+    for (k, b) in src.iter().enumerate() {
+        report[at + k] = *b;
+    }
+    at + src.len()
 }
 
 // Writes one byte.

@@ -45,12 +45,16 @@ fn unwrap_two(
     ensures { TwoAt nodes.now clause conclusion coeffs.new keys.new slots.new result }
 {
     // Unwrap the premise inequality
-    let p = sums::unwrap_pseudoboolean_inequality(nodes, clause, coeffs, keys, slots, LEFT)?;
+    let first = sums::unwrap_pseudoboolean_inequality(nodes, clause, coeffs, keys, slots, LEFT);
 
     // Unwrap the conclusion inequality
-    let c = sums::unwrap_pseudoboolean_inequality(
+    let second = sums::unwrap_pseudoboolean_inequality(
         nodes, conclusion, coeffs, keys, slots, CONCLUSION,
-    )?;
+    );
+
+    // The first that could not be read gives the answer
+    let p = first?;
+    let c = second?;
     Ok((p, c))
 }
 
@@ -79,13 +83,18 @@ fn unwrap_three(
     ensures { ThreeAt nodes.now left right conclusion coeffs.new keys.new slots.new result }
 {
     // Unwrap the premise inequality
-    let l = sums::unwrap_pseudoboolean_inequality(nodes, left, coeffs, keys, slots, LEFT)?;
-    let r = sums::unwrap_pseudoboolean_inequality(nodes, right, coeffs, keys, slots, RIGHT)?;
+    let first = sums::unwrap_pseudoboolean_inequality(nodes, left, coeffs, keys, slots, LEFT);
+    let second = sums::unwrap_pseudoboolean_inequality(nodes, right, coeffs, keys, slots, RIGHT);
 
     // Unwrap the conclusion inequality
-    let c = sums::unwrap_pseudoboolean_inequality(
+    let third = sums::unwrap_pseudoboolean_inequality(
         nodes, conclusion, coeffs, keys, slots, CONCLUSION,
-    )?;
+    );
+
+    // The first that could not be read gives the answer
+    let l = first?;
+    let r = second?;
+    let c = third?;
     let total = integer::add(l.constant, r.constant);
     Ok(Three {
         total,

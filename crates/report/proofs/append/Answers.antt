@@ -1,7 +1,16 @@
--- append: owes that the bytes of src stand from `at` on: they are the part that was copied over.
+-- append: owes that the bytes of src stand from `at` on: the loop keeps that the first k of them do.
 use native.Mathlib.Omega.{arith}
-use Rattle.report.proofs.Writing.{wrote-part}
+use mathlib.Core.Path.{◌≡◌}
+use Prim.Native.Nat.{◌+◌}
+use lib.ListN.{length}
+use Rattle.report.proofs.Writing.{wrote_none, wrote-more, wrote-all}
 use Rattle.report.proofs.append.Goals as goal
 
+pub loop-k-init : goal.loop-k-init
+loop-k-init c = let e : c.args.at + 0 ≡ c.args.at = omega arith in rw e (wrote_none c.args.report.now c.args.at (omega arith))
+
+pub loop-k-preserved : goal.loop-k-preserved
+loop-k-preserved c = let e : c.args.at + (c.loop-k.k + 1) ≡ c.args.at + c.loop-k.k + 1 = omega arith in rw e (wrote-more c.args.src.now c.loop-k.k c.loop-k.invariant (omega arith) (omega arith))
+
 pub returns : goal.returns
-returns c = wrote-part c.args.report.now c.args.src.now c.args.at _ c.requires (omega arith) c.copy_from_slice.ensures.after
+returns c = let e : length c.args.src.now ≡ c.loop-k.k = omega arith in rw e (wrote-all c.args.src.now c.loop-k.k c.loop-k.invariant (omega arith))
